@@ -1,5 +1,5 @@
-//! Links the port's workloads: BESIDE_BENCH is the folder of libbench_times.a, which rt lib makes; RATTLE_KIT that of the toolchain's kit,
-//! whose doors to malloc are linked unless memory is counted.
+//! Links the port's workloads: BESIDE_BENCH is the folder of libbench_times.a, which beside/bench makes; RATTLE_KIT that of the toolchain's kit,
+//! whose calls of malloc are linked unless memory is counted.
 
 fn main() {
     println!("cargo:rerun-if-env-changed=BESIDE_BENCH");

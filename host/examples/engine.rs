@@ -3,7 +3,7 @@ use rhai_world::{Engine, EvalError, Scope};
 
 fn main() -> Result<(), EvalError> {
     let mut engine = Engine::new();
-    engine.register_fn("price", |of: String, amount: i64| match of.as_str() {
+    engine.register_fn("price", |of: &str, amount: i64| match of {
         "apple" => Ok(3 * amount),
         other => Err(format!("no price of {other}")),
     });

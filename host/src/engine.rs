@@ -17,7 +17,7 @@ pub use ast::Ast;
 pub use call::Call;
 pub use error::{CallPlace, EvalError};
 pub use function::{Found, Function};
-pub use functions::{Answers, Arguments, HostFn, Wanted};
+pub use functions::{Answers, Arguments, HostFn, Parameter, Wanted};
 pub use run::{Progress, Run};
 pub use saved::Saved;
 pub use scope::Scope;
@@ -55,8 +55,8 @@ fn serial() -> u64 {
 /// use rhai_world::{Engine, EvalError, Scope};
 ///
 /// let mut engine = Engine::new();
-/// engine.register_fn("price", |of: String, amount: i64| -> Result<i64, String> {
-///     match of.as_str() {
+/// engine.register_fn("price", |of: &str, amount: i64| -> Result<i64, String> {
+///     match of {
 ///         "apple" => Ok(3 * amount),
 ///         other => Err(format!("no price of {other}")),
 ///     }
@@ -107,8 +107,8 @@ impl Engine {
     ///
     /// Parameters and results may be integers of any type, `bool`, `char`, `String`, `()`, `Option`
     /// with unit as `None`, vectors and arrays, maps by `String`, ranges, and
-    /// [`Value`](crate::Value). A result may also be a `&'static str`, or a `Result` of any of
-    /// these and an error. An argument or result that doesn't fit, such as a number out of range,
+    /// [`Value`](crate::Value). A parameter may also be a `&str`, and a result a `&'static str`, or a
+    /// `Result` of any of these and an error. An argument or result that doesn't fit, such as a number out of range,
     /// is an error. Errors and panics are thrown where the script calls, and the script may catch
     /// them.
     ///

@@ -20,7 +20,7 @@
 //! use rhai_world::{Engine, EvalError};
 //!
 //! let mut engine = Engine::new();
-//! engine.register_fn("price", |of: String, amount: i64| match of.as_str() {
+//! engine.register_fn("price", |of: &str, amount: i64| match of {
 //!     "apple" => Ok(3 * amount),
 //!     other => Err(format!("no price of {other}")),
 //! });
@@ -180,8 +180,8 @@ mod world;
 pub use answer::{Answer, ArithmeticFault, Refusal, SizeKind};
 pub use commands::Command;
 pub use engine::{
-    Answers, Arguments, Ast, Call, CallPlace, Engine, EvalError, Found, Function, HostFn, Interrupt, Progress, Run, Saved, Scope,
-    Variables, Wanted,
+    Answers, Arguments, Ast, Call, CallPlace, Engine, EvalError, Found, Function, HostFn, Interrupt, Parameter, Progress, Run,
+    Saved, Scope, Variables, Wanted,
 };
 pub use error::Error;
 pub use journal::Journal;

@@ -38,6 +38,34 @@ fn each_type_of_a_value_goes_in_and_out() -> Result<(), EvalError> {
 }
 
 #[test]
+fn texts_are_lent() -> Result<(), EvalError> {
+    fn longer(left: &str, right: &str) -> bool {
+        left.len() > right.len()
+    }
+    let mut engine = Engine::new();
+    engine
+        .register_fn("letters", |text: &str| text.chars().count() as i64)
+        .register_fn("between", |left: &str, n: i64, right: &str| format!("{left}{n}{right}"))
+        .register_fn("parsed", |text: &str| text.parse::<i64>())
+        .register_fn("longer", longer)
+        .register_fn("add", |list: &mut Vec<String>, item: &str| list.push(item.to_owned()))
+        .register_fn("at", |call: &mut Call, name: &str| format!("{name} in line {}", call.line_column().map_or(0, |at| at.0)))
+        .register_fn("join", |_: &mut Call, list: &mut Vec<String>, by: &str| list.join(by))
+        .register_fn("six", |a: &str, b: &str, c: &str, d: &str, e: &str, f: &str| [a, b, c, d, e, f].concat());
+    assert_eq!(engine.eval::<i64>("letters(\"größe\")")?, 5);
+    assert_eq!(engine.eval::<String>("between(\"a\", 7, \"b\")")?, "a7b");
+    assert_eq!(engine.eval::<i64>("parsed(\"42\")")?, 42);
+    assert!(engine.eval::<String>("try { parsed(\"x\") } catch (e) { e }")?.contains("invalid digit"));
+    assert_eq!(engine.eval::<[bool; 2]>("let a = \"ab\"; [longer(a, \"c\"), longer(a, a)]")?, [true, false]);
+    assert_eq!(engine.eval::<Vec<String>>("let list = []; list.add(\"x\"); list")?, ["x"]);
+    assert_eq!(engine.eval::<String>("\n\nat(\"here\")")?, "here in line 3");
+    assert_eq!(engine.eval::<String>("[\"x\", \"y\"].join(\"-\")")?, "x-y");
+    assert_eq!(engine.eval::<String>("six(\"a\", \"b\", \"c\", \"d\", \"e\", \"f\")")?, "abcdef");
+    assert_eq!(engine.eval::<String>("try { letters('c') } catch (e) { e.sub_string(0, 15) }")?, "argument 1 is a");
+    Ok(())
+}
+
+#[test]
 fn each_form_takes_up_to_six_parameters() -> Result<(), EvalError> {
     let mut engine = Engine::new();
     engine

@@ -77,7 +77,7 @@ impl Port {
     ///
     /// # Errors
     ///
-    /// The status, where that isn't 0.
+    /// The status, if it isn't 0.
     pub fn end(mut self) -> std::result::Result<(), String> {
         drop(self.to.take());
         let status = self.child.wait().expect("its end");

@@ -1,4 +1,4 @@
-//! What the release does otherwise than the port, each by its name in docs/PORTING.md.
+//! Differences between the release and the port, by their names in docs/PORTING.md.
 
 use std::collections::{BTreeMap, BTreeSet};
 
@@ -10,13 +10,13 @@ macro_rules! departures {
         impl Departure {
             pub const ALL: &'static [Departure] = &[$(Departure::$variant),*];
 
-            /// The name that stands before the row of docs/PORTING.md.
+            /// The name before the row in docs/PORTING.md.
             #[must_use]
             pub const fn name(self) -> &'static str {
                 match self { $(Departure::$variant => $name),* }
             }
 
-            /// The keys of the lines of answers that are this one's; of most departures any line may be.
+            /// The keys of the lines of answers in which it can show; most departures can show in any line.
             const fn keys(self) -> &'static [&'static str] {
                 match self { $(Departure::$variant => &$keys),* }
             }
@@ -67,14 +67,14 @@ pub fn key(line: &str) -> &str {
     line.split('=').next().unwrap_or("")
 }
 
-/// Which of the departures that were put in can be the reason for a difference in a line.
+/// Which of the departures that were put in can explain a difference in a line.
 fn reasons(why: &BTreeSet<Departure>, key: &str) -> BTreeSet<Departure> {
     let named: BTreeSet<_> = why.iter().copied().filter(|departure| departure.keys().contains(&key)).collect();
     let others: BTreeSet<_> = why.iter().copied().filter(|departure| departure.keys().is_empty()).collect();
     [named, others].into_iter().find(|found| !found.is_empty()).unwrap_or_else(|| why.clone())
 }
 
-/// The departures that were put in and show: each is the one reason for a difference between two texts of answers.
+/// The departures that were put in and show: each alone explains a difference between two texts of answers.
 #[must_use]
 pub fn shown(why: &BTreeSet<Departure>, raw: &str, ruled: &str) -> BTreeSet<Departure> {
     let (mut raw, mut ruled) = (raw.lines(), ruled.lines());
@@ -106,7 +106,7 @@ impl Tally {
         }
     }
 
-    /// Prints a line for each departure; answers how many were met fewer times than that.
+    /// Prints a line for each departure; returns how many were met fewer times than that.
     pub fn report(&self, least: u64) -> usize {
         let mut seldom = 0;
         for departure in Departure::ALL {

@@ -102,11 +102,11 @@ pub fn small(d: &mut Dice) -> i64 {
     }
 }
 
-/// Lengths around those from which on texts, names and keys are compared, copied or kept in another way.
+/// Lengths around those at which texts, names and keys begin to be compared, copied or stored in another way.
 const BLOCKS: [usize; 30] =
     [3, 4, 5, 7, 8, 9, 15, 16, 17, 23, 24, 25, 31, 32, 33, 47, 48, 49, 55, 56, 57, 63, 64, 65, 79, 80, 81, 127, 128, 129];
 
-/// A text of such a length, like all others of it but for one character at most.
+/// A text of such a length, which differs from all others of it in at most one character.
 pub fn block_text(d: &mut Dice) -> String {
     let mut text: String = (b'a'..=b'h').cycle().take(d.pick(&BLOCKS)).map(char::from).collect();
     if d.one_in(2) {
@@ -116,7 +116,7 @@ pub fn block_text(d: &mut Dice) -> String {
     text
 }
 
-/// A key of a map: many begin alike, or go on in zeros.
+/// A key of a map: many have equal beginnings, or end in zeros.
 pub fn key(d: &mut Dice) -> String {
     match d.below(8) {
         0..=3 => text(d),

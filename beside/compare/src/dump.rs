@@ -1,4 +1,4 @@
-//! The text of a value that shows all of it: tags, modes and cells too.
+//! A text that shows a whole value, with tags, modes and cells.
 
 use rhai::{hooks, AccessMode, Dynamic, ExclusiveRange, InclusiveRange, Locked, Map, Union};
 use std::fmt::Write as _;
@@ -41,7 +41,7 @@ pub fn cell_of(v: &Dynamic) -> Option<*const ()> {
     }
 }
 
-/// How many levels of a value are told; below stands `deep`, also where a cell has a holder of itself.
+/// How many levels of a value are printed; `deep` stands for the rest, also if a cell contains a holder of itself.
 const LEVELS: u32 = 12;
 
 fn items(a: &[Dynamic], levels: u32, out: &mut String) {

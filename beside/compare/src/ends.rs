@@ -41,7 +41,7 @@ pub fn is_chain(v: &Dynamic) -> bool {
     }
 }
 
-/// What is held, copied; of a stuck chain the holder.
+/// A copy of the held value; for a stuck chain of the holder.
 #[must_use]
 pub fn flat(v: &Dynamic) -> Dynamic {
     match end(v) {
@@ -67,7 +67,7 @@ pub fn parts(v: &Dynamic) -> Vec<&Dynamic> {
     }
 }
 
-/// Whether a walk comes to a cell twice, in a loop or not.
+/// Whether a walk reaches a cell twice, in a loop or not.
 pub fn meets_twice(v: &Dynamic, met: &mut Vec<*const ()>) -> bool {
     let Union::Shared(cell, ..) = hooks::union(v) else {
         return parts(v).into_iter().any(|v| meets_twice(v, met));
@@ -80,7 +80,7 @@ pub fn meets_twice(v: &Dynamic, met: &mut Vec<*const ()>) -> bool {
     cell.try_borrow().is_ok_and(|content| meets_twice(&content, met))
 }
 
-/// Whether a host's number stands in a value, through cells too.
+/// Whether a value contains a host number, also in cells.
 pub fn has_host(v: &Dynamic, path: &mut Vec<*const ()>) -> bool {
     if v.is_variant() {
         return true;
@@ -96,7 +96,7 @@ pub fn has_host(v: &Dynamic, path: &mut Vec<*const ()>) -> bool {
     cell.try_borrow().is_ok_and(|content| has_host(&content, path))
 }
 
-/// The same value once more, its modes kept where a clone loses them.
+/// A copy of the value that also keeps the modes which a clone loses.
 #[must_use]
 pub fn moved(v: &Dynamic) -> Dynamic {
     let mut new = match hooks::union(v) {

@@ -6,7 +6,7 @@ fn count(n: usize, out: &mut Vec<u8>) {
     out.extend((n as u64).to_le_bytes());
 }
 
-/// Bytes behind their number.
+/// Bytes, after their number.
 fn sized(bytes: &[u8], out: &mut Vec<u8>) {
     count(bytes.len(), out);
     out.extend(bytes);

@@ -1,4 +1,4 @@
-//! Random commands, most of which a world can do as it is.
+//! Random commands, most of which a world can execute as it is.
 
 use crate::dice::{blob, block_text, int, small, tag, text, Dice, CHARS};
 use crate::machine::command::{Command, Host, Kind, Literal, Place, Question, Scanner, KINDS};
@@ -83,7 +83,7 @@ impl Maker<'_> {
         self.d.pick(&[0, 0, 1, 1, 2, 3, 4])
     }
 
-    /// How many names a command takes that takes some; in a wide world all values of the hand now and then.
+    /// How many names such a command takes; in a wide world sometimes one for each value in the hand.
     fn names(&mut self) -> Vec<String> {
         let (hand, ..) = self.world.sizes();
         let is_wide = self.style.theme == Theme::Wide && self.d.one_in(2);

@@ -40,7 +40,7 @@ pub fn of_kind(m: &mut Maker, kind: u64) -> V {
     }
 }
 
-/// Two values of kinds that stand together in the tables of operators.
+/// Two values of kinds for which the tables of operators have a row.
 fn paired(m: &mut Maker) -> (V, V) {
     const PAIRS: [(u64, u64); 22] = [
         (2, 2),

@@ -1,4 +1,4 @@
-//! The texts of values by the port's rule: a holder of an open or marked cell is `<shared>`, and characters past U+007F stand as themselves.
+//! The texts of values by the port's rule: a holder of an open or marked cell is `<shared>`, and characters past U+007F aren't escaped.
 
 use crate::dump::cell_of;
 use crate::ends::parts;
@@ -40,7 +40,7 @@ fn named(s: &str, form: Form, out: &mut String) {
     }
 }
 
-/// The text by the port's rule: a holder of an open or marked cell is `<shared>`, and characters past U+007F stand as themselves.
+/// The text by the port's rule: a holder of an open or marked cell is `<shared>`, and characters past U+007F aren't escaped.
 fn printed(v: &Dynamic, form: Form, path: &mut Vec<*const ()>, out: &mut String) {
     let of_items = if form == Form::Display { Form::Debug } else { form };
     match hooks::union(v) {
@@ -129,7 +129,7 @@ pub fn hashable_by_rule(v: &Dynamic, path: &mut Vec<*const ()>) -> bool {
     is
 }
 
-/// The text with escapes of characters past U+007F taken back.
+/// The text without the escapes of characters past U+007F.
 #[must_use]
 pub fn unescaped(s: &str) -> String {
     let mut out = String::new();

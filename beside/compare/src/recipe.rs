@@ -24,7 +24,7 @@ pub enum V {
     Ro(Box<V>),
 }
 
-/// Kinds of calls, and how large a share of all each has.
+/// Kinds of calls, each with its share of all.
 macro_rules! kinds {
     ($($kind:ident $share:literal)*) => {
         #[derive(Clone, Copy, Debug, PartialEq, Eq, PartialOrd, Ord)]

@@ -1,4 +1,4 @@
-//! The rows of the operators: for which kinds of operands there is one, and operands for each, of which many are at an edge.
+//! The rows of the operators: the kinds of operands that have one, and operands for each, often at an edge case.
 
 use crate::dice::{blob, int, Dice, CHARS};
 use crate::make::of_kind;
@@ -19,9 +19,9 @@ pub enum Side {
     Array,
     Range,
     RangeEq,
-    /// What is no array.
+    /// Anything but an array.
     Item,
-    /// What is of another type than the first operand, and not both are numbers.
+    /// Another type than the first operand's, and not both are numbers.
     Another,
     /// Any.
     Any,

@@ -1,4 +1,4 @@
-//! What a world's commands are like: which names, how many values, entries and marks.
+//! The style of a world's commands: names, and how many values, entries and marks.
 
 use crate::dice::Dice;
 
@@ -31,14 +31,14 @@ impl Theme {
 pub struct Style {
     pub theme: Theme,
     pub names: Vec<String>,
-    /// Values in the hand, and entries, from which on some go away again.
+    /// From how many values in the hand, and entries, on some are removed again.
     pub values: usize,
     pub entries: usize,
-    /// How many commands there are at the least, and how many more at the most.
+    /// The least number of commands, and how many more there may be.
     pub commands: (usize, u64),
 }
 
-/// Names of many lengths, most of which end as all others do, and half of the time begin so too.
+/// Names of many lengths; most have the same end as the others, and half of them the same beginning.
 fn wide_names(d: &mut Dice) -> Vec<String> {
     let count = 200 + d.below(60);
     let front = d.pick(&["", "name_"]);

@@ -15,7 +15,7 @@ pub fn host(d: &mut Dice) -> V {
     V::Host(kind, if d.one_in(4) { ends[kind as usize] } else { n })
 }
 
-/// How values are made: how deep, and whether with holders, chains of holders.
+/// How values are made: how deep, and with or without holders and chains of holders.
 #[derive(Clone, Copy)]
 pub struct Taste {
     pub holders: bool,

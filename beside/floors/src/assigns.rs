@@ -4,7 +4,7 @@ use crate::operators::{is_number, number, Token, NO_PLACE};
 use crate::value::{Fault, Mode, Value};
 use std::hint::black_box;
 
-/// What a lookup answers.
+/// The result of a look-up.
 #[derive(Clone, Copy)]
 pub enum Row {
     Int(Token),
@@ -15,7 +15,7 @@ pub enum Row {
 
 type Told = Result<Value, Fault>;
 
-/// How an item is put behind an array, or a blob's bytes behind a blob.
+/// How an item is appended to an array, or a blob to a blob.
 type Way = fn(&mut Value, &mut Value) -> Told;
 
 #[inline(always)]
@@ -60,7 +60,7 @@ impl Row {
     }
 }
 
-/// Room for one more item, where the limit allows it.
+/// Reserves room for one more item, if the limit allows it.
 #[inline(always)]
 fn room_for_one(x: &mut Value) -> Result<&mut Vec<Value>, Fault> {
     let Value::Array(_, _, items) = x else {
@@ -116,7 +116,7 @@ pub fn push_by_swap(x: &mut Value, y: &mut Value) -> Told {
     Ok(Value::UNIT)
 }
 
-/// Both lists of bytes, and room for those of the second behind the first, where the limit allows it.
+/// Both lists of bytes, with room reserved in the first for the second, if the limit allows it.
 #[inline(always)]
 fn room_for_bytes<'a>(x: &'a mut Value, y: &'a mut Value) -> Result<(&'a mut Vec<u8>, &'a mut Vec<u8>), Fault> {
     let (Value::Blob(_, _, bytes), Value::Blob(_, _, more)) = (x, y) else {

@@ -56,7 +56,7 @@ struct World {
     hand: Vec<Value>,
 }
 
-/// Memory was refused.
+/// An allocation failed.
 struct Stopped;
 
 impl From<std::collections::TryReserveError> for Stopped {
@@ -307,7 +307,7 @@ pub fn apply_inlined(kind: u32, n: usize) -> u64 {
     applied(kind, n, |world, command| world.apply(command).map(|answer| told(&answer))).unwrap_or(u64::MAX)
 }
 
-/// The same by calls, which hand each answer over.
+/// The same by calls, which return each answer.
 pub fn apply_by_calls(kind: u32, n: usize) -> u64 {
     applied(kind, n, |world, command| apply_called(world, command).map(|answer| told(&answer))).unwrap_or(u64::MAX)
 }

@@ -7,7 +7,7 @@ use crate::singles::copy_flat;
 use crate::value::{Fault, Mode, Text, Value};
 use std::hint::black_box;
 
-/// How a name is sought, to write what it has.
+/// How a name is looked up, to write its value.
 type GetMut = for<'a> fn(&'a mut Scope, &[u8]) -> Option<&'a mut Value>;
 
 /// By bytes.
@@ -16,7 +16,7 @@ const BYTES: (Get, GetMut) = (Scope::get, Scope::get_mut);
 /// By numbers of up to eight bytes.
 const NUMBERS: (Get, GetMut) = (Scope::get_by_number, Scope::get_mut_by_number);
 
-/// What an assignment of ints answers.
+/// The result of an assignment of ints.
 type Assign = fn(Token, &mut Value, &Value) -> Result<Value, Fault>;
 
 #[inline(always)]
@@ -40,7 +40,7 @@ fn assign_called(op: Token, place: &mut Value, y: &Value) -> Result<Value, Fault
     }
 }
 
-/// The result of a call, written where the caller wants it.
+/// The result of a call, written where the caller needs it.
 #[inline(never)]
 fn call_into(op: Token, x: &Value, y: &Value, product: &mut Value) {
     if let Some(row) = row_of(op, x, y) {

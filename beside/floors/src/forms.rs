@@ -12,7 +12,7 @@ pub struct Form {
     /// The number of the row's workload.
     pub row: u32,
     pub name: &'static str,
-    /// Whether it keeps the promises; others stand beside for comparison.
+    /// Whether it keeps the promises; the others are for comparison.
     pub keeps: bool,
     pub run: fn(usize) -> u64,
 }

@@ -40,7 +40,7 @@ pub fn hash_at_once(n: usize) -> u64 {
     texts(n, hash_of_text)
 }
 
-/// Row 150 by the bytes of an int, which stand in memory once they were made.
+/// Row 150 by the bytes of an int, which are first written to memory.
 #[inline(always)]
 fn ints<B>(n: usize, made: impl Fn(&Value) -> Option<B>, hash: impl Fn(&B) -> u64) -> u64 {
     let value = Value::int(7);
@@ -121,7 +121,7 @@ fn hashed_called(value: &Value) -> Option<Hashed> {
     hashed(value)
 }
 
-/// The same, handed over by a call.
+/// The same, returned by a call.
 pub fn int_of_call(n: usize) -> u64 {
     ints(n, hashed_called, |bytes| hash_by(sip(), bytes.bytes()))
 }
@@ -232,7 +232,7 @@ pub fn value_over_zeros(n: usize) -> u64 {
     values(n, |value| text_over_zeros(value).map(|bytes| hash_by(sip(), &bytes)))
 }
 
-/// The bytes are hashed where they stand, and not made.
+/// The bytes are hashed in place, not written first.
 pub fn value_not_made(n: usize) -> u64 {
     values(n, |value| {
         let Value::Text(_, _, text) = value else {

@@ -1,4 +1,4 @@
-//! Ints that values themselves have, where a holder's cell would be asked too.
+//! Ints in values themselves, with code that would also look into a holder's cell.
 
 use crate::given::ints;
 use crate::value::{Mode, Value};
@@ -13,7 +13,7 @@ fn cells() -> Vec<Value> {
     black_box(Vec::new())
 }
 
-/// What is asked where a value isn't an int itself.
+/// What is read if a value isn't an int itself.
 #[inline(never)]
 fn int_in_cell(value: &Value, cells: &[Value]) -> Result<i64, &'static str> {
     let Value::Shared(_, _, cell) = value else {
@@ -132,13 +132,13 @@ pub fn write_by_one_match(value: &mut Value, cells: &mut [Value], n: i64) -> boo
     true
 }
 
-/// The int that was there is handed over, as by `std::mem::replace`.
+/// Returns the previous int, as `std::mem::replace` does.
 #[inline(always)]
 pub fn exchange(value: &mut Value, cells: &mut [Value], n: i64) -> bool {
     black_box(place(value, cells).map(|place| std::mem::replace(place, n))).is_some()
 }
 
-/// How an int is written; it answers whether one was there.
+/// How an int is written; returns whether one was there.
 type Write = fn(&mut Value, &mut [Value], i64) -> bool;
 
 /// Row 5.

@@ -1,6 +1,6 @@
 //! Measures the forms beside the port and the released files.
 //!
-//! Usage: floors TURNS PART PAGE: the rows whose names have PART, the least of so many turns. PAGE is docs/SPEED.md, or nothing.
+//! Usage: floors TURNS PART PAGE: the rows whose names contain PART, the least of TURNS turns. PAGE is docs/SPEED.md, or nothing.
 
 use floors::measured::{count, run_one, Told};
 use floors::{forms, hashes};
@@ -15,7 +15,7 @@ fn cell(n: Option<f64>) -> String {
     n.map_or("-".into(), number)
 }
 
-/// A line a form, and behind the name of the row what both sides take.
+/// A line for each form, with what both sides take.
 fn table(told: &[Told]) -> String {
     let mut text = String::from("| row | form | ns | to rhai | port to it | rhai ns | port ns | instructions | rhai | port |\n");
     text.push_str("|---|---|---|---|---|---|---|---|---|---|\n");
@@ -34,7 +34,7 @@ fn table(told: &[Told]) -> String {
     text
 }
 
-/// A line a row: its least form that keeps the promises.
+/// A line for each row: its fastest form that keeps the promises.
 fn floors(told: &[Told]) -> String {
     let mut text = String::from(
         "| row | port to rhai | floor to rhai | port to floor | rhai ns | floor ns | port ns | the floor's form |\n",
@@ -52,15 +52,17 @@ fn floors(told: &[Told]) -> String {
     text
 }
 
-/// A line a row that is behind here or on the page: its forms that keep the promises, the fastest first.
+/// A line for each row that is above its goal, here or on the page: the forms that keep the promises, without the fastest, which
+/// `floors` has.
 fn forms_of_rows_behind(told: &[Told], page: &str) -> String {
     let rows = rows_of(page);
     let on_page = |row: &Told| rows.get(row.name).and_then(|cells| cells.get(2)?.parse().ok());
     let is_behind = |row: &Told| row.is_behind(row.ratio()) || on_page(row).is_some_and(|ratio| row.is_behind(ratio));
-    let mut text = String::from("| row | to rhai | forms: ns |\n|---|---|---|\n");
+    let mut text = String::from("| row | ns of the other forms |\n|---|---|\n");
     for row in told.iter().filter(|row| is_behind(row)) {
-        let forms: Vec<String> = row.kept().iter().map(|form| format!("{} {}", form.name, number(form.taken.ns))).collect();
-        let _ = writeln!(text, "| {} | {:.2} | {} |", row.name, row.ratio(), forms.join(", "));
+        let forms: Vec<String> =
+            row.kept().iter().skip(1).map(|form| format!("{} {}", form.name, number(form.taken.ns))).collect();
+        let _ = writeln!(text, "| {} | {} |", row.name, forms.join(", "));
     }
     text
 }

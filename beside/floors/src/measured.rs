@@ -25,7 +25,7 @@ pub struct FormTold {
     which: u32,
     pub name: &'static str,
     pub keeps: bool,
-    /// Whether it answers the checksum of the released files, which is asked of the forms that keep the promises.
+    /// Whether it returns the checksum of the released files, as forms that keep the promises must.
     pub agrees: bool,
     pub taken: Taken,
 }
@@ -95,7 +95,7 @@ impl Told {
         kept
     }
 
-    /// What the port takes to what the released files take.
+    /// The ratio of the port's time to that of the released files.
     #[must_use]
     pub fn ratio(&self) -> f64 {
         let [port, rhai] = self.sides;

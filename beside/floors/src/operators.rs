@@ -28,7 +28,7 @@ pub enum Token {
     Range,
 }
 
-/// What a lookup answers.
+/// The result of a look-up.
 #[derive(Clone, Copy)]
 pub enum Row {
     Ints(Token),
@@ -119,7 +119,7 @@ impl Row {
     }
 }
 
-/// The result stays where the caller wants it.
+/// The result is written where the caller needs it.
 #[inline(always)]
 pub fn inlined(op: Token, x: &mut Value, y: &mut Value) -> Value {
     let Some(row) = row_of(op, x, y) else {
@@ -128,7 +128,7 @@ pub fn inlined(op: Token, x: &mut Value, y: &mut Value) -> Value {
     row.call(x, y).unwrap_or(Value::UNIT)
 }
 
-/// The result is handed over by a function that isn't inlined, as rhai's rows are.
+/// The result is returned by a function that isn't inlined, as rhai's rows are.
 #[inline(never)]
 fn row_called(row: Row, x: &Value, y: &Value) -> Result<Value, Fault> {
     row.call(x, y)
@@ -142,7 +142,7 @@ pub fn called(op: Token, x: &mut Value, y: &mut Value) -> Value {
     row_called(row, x, y).unwrap_or(Value::UNIT)
 }
 
-/// How an operator is done.
+/// How an operator is executed.
 pub type Way = fn(Token, &mut Value, &mut Value) -> Value;
 
 fn on_all(mut xs: Vec<Value>, mut ys: Vec<Value>, n: usize, operate: impl Fn(&mut Value, &mut Value) -> Value) -> u64 {
@@ -163,7 +163,7 @@ fn on_all(mut xs: Vec<Value>, mut ys: Vec<Value>, n: usize, operate: impl Fn(&mu
     sum
 }
 
-/// Rows 102 to 104; the operator is known where it is asked for, as it is in `times`.
+/// Rows 102 to 104; the operator is known at the look-up, as in `times`.
 #[inline(always)]
 pub fn ints_inlined(op: Token, n: usize) -> u64 {
     let op = black_box(op);
@@ -191,7 +191,7 @@ pub fn texts_called(op: Token, length: usize, n: usize) -> u64 {
     on_all(values(), values(), n, |x, y| called(op, x, y))
 }
 
-/// Row 108: each addition takes the answer of the last.
+/// Row 108: each addition uses the previous result.
 #[inline(always)]
 pub fn chain(n: usize, way: Way) -> u64 {
     let op = black_box(Token::Plus);

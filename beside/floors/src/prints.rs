@@ -93,7 +93,7 @@ pub fn by_runs(out: &mut String, text: &str) {
     out.push_str(left);
 }
 
-/// All bytes are asked first, without a stop.
+/// All bytes are tested first, without an early exit.
 pub fn plain_at_once(out: &mut String, text: &str) {
     match text.bytes().fold(true, |plain, byte| plain & is_plain(byte)) {
         true => out.push_str(text),

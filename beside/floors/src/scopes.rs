@@ -144,7 +144,7 @@ pub fn push_pop(n: usize) -> u64 {
     pushed(n, pop_ten).unwrap_or(u64::MAX)
 }
 
-/// How a name is sought.
+/// How a name is looked up.
 pub type Get = for<'a> fn(&'a Scope, &[u8]) -> Option<&'a Value>;
 
 /// Rows 133 to 135: of the last two names in turn.
@@ -163,7 +163,7 @@ pub fn get_last(n: usize, count: u32, get: Get) -> u64 {
     sum
 }
 
-/// What a walk hands out of a record: its flat value is a copy.
+/// What a walk returns of a record: its flat value is a copy.
 type Item<'a> = Result<(&'a [u8], bool, Value), ()>;
 
 #[inline(always)]

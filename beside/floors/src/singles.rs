@@ -58,7 +58,7 @@ fn tag_called(value: &mut Value) -> &mut Tag {
     value.tag_mut()
 }
 
-/// The tag is asked by one call, and set by another.
+/// One call reads the tag, another sets it.
 pub fn tag_by_two_calls(n: usize) -> u64 {
     tag_get_set(n, |value, tag| {
         let old = *tag_called(value);
@@ -72,7 +72,7 @@ fn set_tag(value: &mut Value, tag: Tag) {
     *value.tag_mut() = tag;
 }
 
-/// Row 46 by how a copy is flattened: what a holder's cell has would stand in its place.
+/// Row 46 by how a copy is flattened: a holder would be replaced by its cell's content.
 #[inline(always)]
 pub fn flattened(n: usize, flat: impl Fn(&Value, &[Value]) -> Option<Value>) -> u64 {
     let (cells, values) = (black_box(Vec::new()), ints(64));
@@ -263,7 +263,7 @@ pub fn copy_text(n: usize) -> u64 {
     slots.iter().filter(|slot| matches!(slot, Value::Text(..))).count() as u64
 }
 
-/// Row 8: how a value or the content of its cell is asked for an int.
+/// Row 8: how a value or the content of its cell is tested for an int.
 #[inline(always)]
 fn ints_among(n: usize, is_int: impl Fn(&Value, &[Value]) -> bool) -> u64 {
     let values = mixed();

@@ -3,7 +3,7 @@
 use std::hash::Hasher;
 use std::marker::PhantomData;
 
-/// How the bytes behind the last whole word are read, the first of them lowest.
+/// How the bytes after the last whole word are read, the first of them lowest.
 pub trait Tail {
     fn word(all: &[u8], rest: &[u8]) -> u64;
 }

@@ -3,7 +3,7 @@
 use crate::sip::short_word;
 use std::rc::Rc;
 
-/// A text of one pointer, whose copies share its bytes: up to 24 stand beside the count.
+/// A text of one pointer, whose copies share its bytes: up to 24 bytes are stored with the count.
 #[derive(Clone)]
 pub struct Text {
     bytes: Rc<Bytes>,
@@ -44,7 +44,7 @@ impl Text {
         }
     }
 
-    /// The block of the bytes is asked for, and then they are copied.
+    /// Allocates the block of the bytes, and then copies them.
     #[must_use]
     #[inline(always)]
     pub fn reserved(text: &str) -> Option<Text> {
@@ -86,14 +86,14 @@ impl Text {
         Some(Text { bytes })
     }
 
-    /// A copy, where its count isn't full.
+    /// A copy, unless the count is full.
     #[must_use]
     #[inline(always)]
     pub fn counted(&self) -> Option<Text> {
         (Rc::strong_count(&self.bytes) < usize::MAX).then(|| self.clone())
     }
 
-    /// The bytes of one text behind those of another; these are of texts, so they are one.
+    /// Appends the bytes of one text to those of another; both are valid, so the result is.
     #[must_use]
     #[inline(always)]
     pub fn joined(&self, other: &Text) -> Text {
@@ -110,7 +110,7 @@ impl Text {
         Text { bytes: Rc::new(bytes) }
     }
 
-    /// The same of few bytes, written where they stay.
+    /// The same for few bytes, written in place.
     #[must_use]
     #[inline(always)]
     pub fn joined_in_place(&self, other: &Text) -> Option<Text> {

@@ -1,4 +1,4 @@
-//! Values, texts and cells as wide as the port's: what its promises leave.
+//! Values, texts and cells as wide as the port's, as its promises require.
 
 pub use crate::text::Text;
 
@@ -86,7 +86,7 @@ impl Value {
         }
     }
 
-    /// The int that is held, by the value itself or in its cell.
+    /// The held int, in the value itself or in its cell.
     #[inline(always)]
     pub fn held_int(&self, cells: &[Value]) -> Result<i64, &'static str> {
         match self {
@@ -96,7 +96,7 @@ impl Value {
         }
     }
 
-    /// A copy of its own, with mode ReadWrite; nothing where memory is refused.
+    /// A copy with mode ReadWrite; `None` if an allocation fails.
     #[must_use]
     #[inline(always)]
     pub fn copy(&self) -> Option<Value> {
@@ -139,7 +139,7 @@ fn copied(items: &[Value]) -> Option<Vec<Value>> {
 }
 
 impl Clone for Value {
-    /// The same where memory is there; refused memory ends the program, after the same test.
+    /// The same without an error: a failed allocation ends the program, after the same test.
     #[inline(always)]
     fn clone(&self) -> Value {
         self.copy().expect("memory")

@@ -1,4 +1,4 @@
-//! Row 141: a copy of the last record of each name, the newest first. Copies alone take memory.
+//! Row 141: a copy of the last record of each name, the newest first. Only the copies allocate.
 
 use crate::scopes::{same, scope_of, Record, Scope};
 use std::collections::HashSet;
@@ -7,7 +7,7 @@ fn copied(record: &Record) -> Option<Record> {
     Some(Record { name: record.name.clone(), value: record.value.copy()?, aliases: record.aliases.clone() })
 }
 
-/// Records are asked for from the last to the first.
+/// Records are visited from the last to the first.
 #[inline(always)]
 fn copy_of(scope: &Scope, mut is_last: impl FnMut(usize, &Record) -> bool) -> Option<Scope> {
     let mut records = Vec::new();
@@ -20,7 +20,7 @@ fn copy_of(scope: &Scope, mut is_last: impl FnMut(usize, &Record) -> bool) -> Op
     Some(Scope { records })
 }
 
-/// Whether a name stands in none of these records.
+/// Whether none of these records has the name.
 #[inline(always)]
 fn is_none(records: &[Record], record: &Record) -> bool {
     !records.iter().any(|other| same(other.name.bytes(), record.name.bytes()))
@@ -46,7 +46,7 @@ fn sought(scope: &Scope) -> Option<Scope> {
     copy_of(scope, |place, record| is_none(&scope.records[place + 1..], record))
 }
 
-/// A name whose bit isn't set is new; others are sought.
+/// A name whose bit isn't set is new; others are looked up.
 fn filtered(scope: &Scope) -> Option<Scope> {
     let mut bits = [0_u64; BITS / 64];
     copy_of(scope, |place, record| {
@@ -57,7 +57,7 @@ fn filtered(scope: &Scope) -> Option<Scope> {
     })
 }
 
-/// Names of up to eight bytes are listed as numbers, while there is room; others are sought.
+/// Names of up to eight bytes are listed as numbers, while there is room; others are looked up.
 fn listed(scope: &Scope) -> Option<Scope> {
     let (mut lengths, mut words, mut count) = ([0_u8; LISTED], [0_u64; LISTED], 0);
     copy_of(scope, |place, record| {
@@ -71,7 +71,7 @@ fn listed(scope: &Scope) -> Option<Scope> {
     })
 }
 
-/// A table of places on the stack, which is never full: the first free one behind the name's own is taken.
+/// A hash table on the stack with linear probing; it is never full.
 fn tabled(scope: &Scope) -> Option<Scope> {
     let mut places = [u16::MAX; BITS];
     copy_of(scope, |place, record| {
@@ -90,7 +90,7 @@ fn tabled(scope: &Scope) -> Option<Scope> {
     })
 }
 
-/// A hashed set of the names takes memory of its own.
+/// A hash set of the names, which allocates.
 fn hashed(scope: &Scope) -> Option<Scope> {
     let mut seen = HashSet::new();
     seen.try_reserve(scope.records.len()).ok()?;

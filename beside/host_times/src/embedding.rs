@@ -8,7 +8,7 @@ fn wants(found: i64, wanted: i64) {
     assert_eq!(found, wanted, "an answer is wrong");
 }
 
-/// A loop of the script that calls the host, less the same loop without the call.
+/// A loop of the script that calls the host, minus the same loop without the call.
 fn to_the_host(engine: &Engine, rounds: i64) -> Result<f64, EvalError> {
     let mut taken = [0.0; 2];
     for (taken, call) in taken.iter_mut().zip(["x + 1", "next_of(x)"]) {
@@ -46,7 +46,7 @@ fn of_an_array(engine: &Engine, rounds: i64, text: &str, wanted: i64) -> Result<
 }
 
 /// Prints the nanoseconds of a call from a script to a function of the host, of a call of a script's function by the host, of an item of an array that
-/// is handed in and added up there, and of one that the script only takes.
+/// is passed in and added up there, and of one that is only passed in.
 pub fn embedding(rounds: i64) -> Result<(), EvalError> {
     let mut engine = Engine::new();
     engine.register_fn("next_of", |x: i64| x + 1);

@@ -1,4 +1,4 @@
-//! Stands for the parts of `Engine`, `NativeCallContext` and `Position` that the five files ask for.
+//! Replaces the parts of `Engine`, `NativeCallContext` and `Position` that the five files use.
 
 use crate::{types::dynamic::Union, Dynamic, RhaiResultOf, ERR};
 use std::fmt;

@@ -1,4 +1,4 @@
-//! Stands for `EvalAltResult`: the variants that the five files (and arithmetic) make.
+//! Replaces `EvalAltResult`: the variants that the five files (and arithmetic) make.
 
 use crate::Position;
 use std::fmt;

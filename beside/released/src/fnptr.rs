@@ -1,4 +1,4 @@
-//! Stands for `FnPtr`: a name and curried values (script body, kind and environment left out).
+//! Replaces `FnPtr`: a name and curried values (script body, kind and environment left out).
 
 use crate::{Dynamic, ImmutableString, ThinVec};
 use std::fmt;

@@ -1,7 +1,7 @@
-//! The five released files of rhai 1.27.0 that this port stands beside, run without the rest of the crate.
+//! The five released files of rhai 1.27.0 with which this port is compared, without the rest of the crate.
 //!
 //! `beside/setup` puts them, unchanged, into `../build`. Everything in `src` is the port's authors' own: what these files import, as wide as
-//! what it stands for.
+//! the original.
 #![allow(dead_code, unused_imports, unused_macros)]
 #![allow(mismatched_lifetime_syntaxes)]
 

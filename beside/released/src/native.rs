@@ -1,4 +1,4 @@
-//! Stands for `func::native`: locks, and the type of built-in operator functions.
+//! Replaces `func::native`: locks, and the type of built-in operator functions.
 
 use crate::{Dynamic, Locked, NativeCallContext, RhaiResult, Shared};
 
@@ -6,7 +6,7 @@ pub trait SendSync {}
 impl<T> SendSync for T {}
 
 pub type FnCallArgs<'a> = [&'a mut Dynamic];
-/// The function and whether it wants a context (for size limits).
+/// The function, and whether it needs a context (for size limits).
 pub type FnBuiltin = (fn(Option<NativeCallContext>, &mut FnCallArgs) -> RhaiResult, bool);
 
 pub type LockGuard<'a, T> = std::cell::Ref<'a, T>;

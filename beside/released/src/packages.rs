@@ -1,4 +1,4 @@
-//! Stands for the helper functions that the operator tables call: checked integer arithmetic,
+//! Replaces the helper functions that the operator tables call: checked integer arithmetic,
 //! array and blob helpers.
 
 pub mod arithmetic {

@@ -1,4 +1,4 @@
-//! Stands for the released crate's `reify!` helper: a cast between types that are known to be equal.
+//! Replaces the released crate's `reify!` helper: a cast between types that are known to be equal.
 
 macro_rules! reify {
     ($old:ident => |$new:ident : $t:ty| $code:expr) => {

@@ -1,5 +1,5 @@
-//! Stands for `smartstring::SmartString<LazyCompact>` (not in Debian): 24 bytes, texts up to 23 bytes
-//! stand inline, longer ones on the heap. It never goes back inline. For little-endian machines.
+//! Replaces `smartstring::SmartString<LazyCompact>` (not in Debian): 24 bytes, texts up to 23 bytes
+//! inline, longer ones on the heap. It never moves back inline. For little-endian machines.
 
 use std::borrow::Borrow;
 use std::fmt;
@@ -54,7 +54,7 @@ impl SmartString {
         let mut text = ManuallyDrop::new(text);
         Self { heap: Heap { start: text.as_mut_ptr(), capacity: text.capacity(), len: text.len() } }
     }
-    /// The text on the heap, which the caller gives back by `keep` or drops.
+    /// The text on the heap, which the caller returns by `keep` or drops.
     #[inline(always)]
     unsafe fn string(&self) -> ManuallyDrop<String> {
         let Heap { start, capacity, len } = self.heap;
@@ -68,7 +68,7 @@ impl SmartString {
     #[inline(always)]
     #[must_use]
     pub fn as_str(&self) -> &str {
-        // SAFETY: only whole `str`s and `char`s are ever appended; the form is told by the last byte.
+        // SAFETY: only whole `str`s and `char`s are ever appended; the last byte determines the form.
         unsafe {
             let bytes = if self.is_inline() {
                 let n = (self.inline.mark & !MARK) as usize;
@@ -98,7 +98,7 @@ impl SmartString {
                 *self = Self::of_string(s);
             }
         } else {
-            // SAFETY: the form was tested, and what comes back is kept.
+            // SAFETY: the form was tested, and what is returned is kept.
             let mut s = unsafe { self.string() };
             s.push_str(text);
             self.keep(s);
@@ -114,7 +114,7 @@ impl Drop for SmartString {
     #[inline]
     fn drop(&mut self) {
         if !self.is_inline() {
-            // SAFETY: the text on the heap is ours, and goes with us.
+            // SAFETY: we own the text on the heap, and drop it once.
             drop(ManuallyDrop::into_inner(unsafe { self.string() }));
         }
     }
@@ -219,7 +219,7 @@ impl From<SmartString> for String {
             return s.as_str().to_string();
         }
         let s = ManuallyDrop::new(s);
-        // SAFETY: the text on the heap is handed on, and `s` isn't dropped.
+        // SAFETY: the text on the heap gets a new owner, and `s` isn't dropped.
         ManuallyDrop::into_inner(unsafe { s.string() })
     }
 }

@@ -1,5 +1,5 @@
-//! Stands for `ImmutableString`: a reference-counted, copy-on-write text. As in the released crate it
-//! is `Shared<SmartString>`. `-` takes every occurrence out.
+//! Replaces `ImmutableString`: a reference-counted, copy-on-write text. As in the released crate it
+//! is `Shared<SmartString>`. `-` removes every occurrence.
 
 use crate::{Shared, SmartString};
 use std::borrow::Borrow;

@@ -1,4 +1,4 @@
-//! Stands for `thin_vec::ThinVec`: a vector of one word, which leads to a block of its length, its room and its items.
+//! Replaces `thin_vec::ThinVec`: a vector of one word, which points to a block of its length, its capacity and its items.
 
 use std::alloc::{alloc, dealloc, handle_alloc_error, realloc, Layout};
 use std::fmt;
@@ -14,7 +14,7 @@ struct Head {
     room: usize,
 }
 
-/// The head of all vectors that have no room. It is never written.
+/// The head of all vectors without capacity. It is never written.
 static EMPTY: Head = Head { len: 0, room: 0 };
 
 pub struct ThinVec<T> {
@@ -54,15 +54,15 @@ impl<T> ThinVec<T> {
 
     #[inline]
     fn start(&self) -> *mut T {
-        // SAFETY: the items of a block stand right behind its head; with no room this is one past the head.
+        // SAFETY: the items of a block follow its head; without capacity this is one past the head.
         unsafe { self.head.as_ptr().add(1).cast() }
     }
 
-    /// Sets the length. The caller answers for it: the block has the room, and the items are initialized.
+    /// Sets the length. The caller guarantees that the block has the capacity, and that the items are initialized.
     #[inline]
     unsafe fn set_len(&mut self, len: usize) {
         if self.head().room > 0 {
-            // SAFETY: a head with room is that of our own block.
+            // SAFETY: a head with capacity is that of our own block.
             unsafe { (*self.head.as_ptr()).len = len };
         }
     }
@@ -97,7 +97,7 @@ impl<T> ThinVec<T> {
     pub fn push(&mut self, item: T) {
         self.reserve(1);
         let len = self.head().len;
-        // SAFETY: there is room for one more item behind the others.
+        // SAFETY: there is room for one more item after the others.
         unsafe {
             self.start().add(len).write(item);
             self.set_len(len + 1);
@@ -124,11 +124,11 @@ impl<T> ThinVec<T> {
         self.truncate(0);
     }
 
-    /// Takes the item at a place out; those behind it close up. Panics where there is none.
+    /// Removes the item at an index, and moves the later ones down. Panics if there is none.
     pub fn remove(&mut self, place: usize) -> T {
         let len = self.head().len;
         assert!(place < len, "no item at {place}");
-        // SAFETY: the place is one of an item, and as many items as stand behind it are moved down by one.
+        // SAFETY: there is an item at the index, and exactly the later items are moved down by one.
         unsafe {
             let at = self.start().add(place);
             let item = at.read();
@@ -138,12 +138,12 @@ impl<T> ThinVec<T> {
         }
     }
 
-    /// Takes the items of a range out; those behind it close up. Panics where the range isn't one of places.
+    /// Removes the items of a range, and moves the later ones down. Panics if the range is out of bounds.
     pub fn drain(&mut self, range: std::ops::Range<usize>) -> std::vec::IntoIter<T> {
         let len = self.head().len;
         assert!(range.start <= range.end && range.end <= len, "no items at {range:?}");
         let mut taken = Vec::with_capacity(range.len());
-        // SAFETY: the items of the range are moved out, and those behind it are moved down over them.
+        // SAFETY: the items of the range are moved out, and the later ones are moved down over them.
         unsafe {
             let at = self.start().add(range.start);
             ptr::copy_nonoverlapping(at, taken.as_mut_ptr(), range.len());
@@ -169,7 +169,7 @@ impl<T> Drop for ThinVec<T> {
     fn drop(&mut self) {
         let Head { len, room } = *self.head();
         if room > 0 {
-            // SAFETY: the items and the block are ours, and go with us.
+            // SAFETY: we own the items and the block, and drop them once.
             unsafe {
                 ptr::drop_in_place(ptr::slice_from_raw_parts_mut(self.start(), len));
                 dealloc(self.head.as_ptr().cast(), Self::layout(room));
@@ -189,7 +189,7 @@ impl<T> Deref for ThinVec<T> {
 impl<T> DerefMut for ThinVec<T> {
     #[inline]
     fn deref_mut(&mut self) -> &mut [T] {
-        // SAFETY: as above, and nobody else has the block.
+        // SAFETY: as above, and nothing else refers to the block.
         unsafe { slice::from_raw_parts_mut(self.start(), self.head().len) }
     }
 }
@@ -249,7 +249,7 @@ impl<'a, T> IntoIterator for &'a mut ThinVec<T> {
     }
 }
 
-/// Hands the items of a vector out, one after another.
+/// Moves the items of a vector out, one after another.
 pub struct Items<T> {
     items: ManuallyDrop<ThinVec<T>>,
     at: usize,
@@ -262,14 +262,14 @@ impl<T> Iterator for Items<T> {
             return None;
         }
         self.at += 1;
-        // SAFETY: each item is handed out once; `drop` leaves out those before `at`.
+        // SAFETY: each item is moved out once; `drop` skips those before `at`.
         Some(unsafe { self.items.start().add(self.at - 1).read() })
     }
 }
 impl<T> Drop for Items<T> {
     fn drop(&mut self) {
         self.for_each(drop);
-        // SAFETY: no item is left, so the block alone is given back, and once.
+        // SAFETY: no item is left, so only the block is freed, and once.
         unsafe {
             self.items.set_len(0);
             ManuallyDrop::drop(&mut self.items);

@@ -1,4 +1,4 @@
-//! Stands for `Token`: the 20 binary and 11 assignment operators.
+//! Replaces `Token`: the 20 binary and 11 assignment operators.
 
 macro_rules! tokens {
     ($($name:ident $text:literal),* $(,)?) => {

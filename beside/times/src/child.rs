@@ -1,10 +1,10 @@
-//! Other programs, and what they take.
+//! Other programs, and the time and memory that they take.
 
 use std::fs::File;
 use std::io::{Seek, SeekFrom, Write};
 use std::process::{Command, Stdio};
 
-/// The argument with which this program runs another.
+/// The argument that makes this program run another.
 pub const MEASURED: &str = "measured";
 
 /// What a run of a program took, and what it wrote.
@@ -38,8 +38,8 @@ fn file_of(bytes: &[u8]) -> File {
     file
 }
 
-/// Runs a program on this one's input and output, and says on standard error what it took: what `run` starts this program for, since the peak of
-/// a process begins with that of the one which starts it.
+/// Runs a program on this one's input and output, and prints to standard error what it took. `run` starts this program for that, since
+/// the peak of a process begins with that of its parent.
 pub fn measured(words: &[String]) -> i32 {
     let Ok(child) = Command::new(&words[0]).args(&words[1..]).stderr(Stdio::null()).spawn() else { return 1 };
     let (mut status, mut usage) = (0, Usage::default());
@@ -50,7 +50,7 @@ pub fn measured(words: &[String]) -> i32 {
     i32::from(waited != child.id() as i32 || status != 0)
 }
 
-/// Runs a program on some input; nothing where it isn't there or fails.
+/// Runs a program on some input; `None` if it doesn't exist or fails.
 #[must_use]
 pub fn run(words: &[&str], input: &[u8]) -> Option<Ran> {
     let mut command = Command::new(std::env::current_exe().ok()?);
@@ -61,7 +61,7 @@ pub fn run(words: &[&str], input: &[u8]) -> Option<Ran> {
     ran.status.success().then_some(Ran { nanoseconds: micros * 1000.0, peak_kilobytes, output: ran.stdout })
 }
 
-/// The least time of so many runs of each of some programs, which take turns, with what the last run of each wrote.
+/// The least time of this many runs of each of some programs, which take turns, with the output of each one's last run.
 #[must_use]
 pub fn least(programs: &[Vec<&str>], inputs: &[&[u8]], turns: usize) -> Vec<Option<Ran>> {
     let mut best: Vec<Option<Ran>> = programs.iter().map(|_| None).collect();

@@ -1,4 +1,4 @@
-//! Counts the memory of both sides. The timed build has none of this: there Rust takes its usual allocator and Rattle
+//! Counts the memory of both sides. The timed build has none of this: there Rust uses its usual allocator and Rattle
 //! the kit's c/liblibc_c.a, and both call C's malloc.
 
 use std::alloc::{GlobalAlloc, Layout, System};

@@ -17,7 +17,7 @@ pub fn run_one(side: &str, which: u32, rounds: usize) {
     std::hint::black_box(workload(which, rounds));
 }
 
-/// All instructions of so many rounds, and of what stands around them.
+/// All instructions of this many rounds, and of the code around them.
 fn counted(program: &Path, side: &str, which: u32, rounds: usize) -> Option<f64> {
     let mut valgrind = Command::new("valgrind");
     valgrind.args(["--tool=callgrind", "--callgrind-out-file=/dev/null"]).arg(program);
@@ -33,7 +33,7 @@ pub fn of_round(program: &Path, side: &str, which: u32, rounds: usize) -> Option
     Some(more / rounds as f64)
 }
 
-/// Instructions an operation, by the port and by the release; nothing where valgrind isn't there.
+/// Instructions per operation, of the port and of the release; `None` without valgrind.
 #[must_use]
 pub fn of(row: &Row, taken: &Taken) -> Option<[f64; 2]> {
     let program = std::env::current_exe().ok()?;

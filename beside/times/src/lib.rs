@@ -1,6 +1,6 @@
 //! The same workloads over rhai's own values, the released files, and over the port's, a static library.
 //!
-//! A workload takes a number of rounds and answers a checksum; each is the mirror of a function of `crates/bench_times/src`.
+//! A workload takes a number of rounds and returns a checksum; each mirrors a function of `beside/crates/bench_times/src`.
 
 pub mod child;
 mod clock;
@@ -17,7 +17,7 @@ pub use clock::now;
 pub use counting::counted;
 
 mod door {
-    // SAFETY: these are the exports of crates/bench_times, by the same types; they take no pointers, and end the process nowhere.
+    // SAFETY: these are the exports of beside/crates/bench_times, by the same types; they take no pointers, and end the process nowhere.
     unsafe extern "C" {
         pub safe fn rattle_workload(which: u32, n: usize) -> u64;
         pub safe fn rattle_size(which: u32) -> usize;

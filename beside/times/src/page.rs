@@ -2,7 +2,7 @@
 
 use std::collections::HashMap;
 
-/// A ratio with two places, and with three where it is very small: none is printed as nothing.
+/// A ratio with two decimals, or three if it is very small; empty if there is none.
 #[must_use]
 pub fn ratio(n: f64) -> String {
     if n < 0.01 {
@@ -38,7 +38,7 @@ pub fn mean(of: &[f64]) -> f64 {
     (of.iter().map(|n| n.ln()).sum::<f64>() / of.len().max(1) as f64).exp()
 }
 
-/// The cells of each row of the page's tables, by the first one. Of rows that begin alike the first counts: later tables tell of them again.
+/// The cells of each row of the page's tables, by the first one. Of rows with the same name the first counts: later tables repeat them.
 #[must_use]
 pub fn rows_of(page: &str) -> HashMap<String, Vec<String>> {
     let cells = |line: &str| line.trim_matches(['|', ' ']).split('|').map(|cell| cell.trim().to_string()).collect::<Vec<_>>();
@@ -53,7 +53,7 @@ pub fn rows_of(page: &str) -> HashMap<String, Vec<String>> {
 ///
 /// # Panics
 ///
-/// Where the page doesn't have the marks.
+/// If the page doesn't have the marks.
 #[must_use]
 pub fn with_part(page: &str, name: &str, part: &str) -> String {
     let (begin, end) = (format!("<!-- {name} -->\n"), format!("<!-- end of {name} -->"));

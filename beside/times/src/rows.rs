@@ -13,7 +13,7 @@ pub struct Row {
 pub struct Taken {
     pub port: f64,
     pub release: f64,
-    /// Whether both sides answer the same checksum.
+    /// Whether both sides return the same checksum.
     pub agrees: bool,
 }
 
@@ -155,7 +155,7 @@ pub const ROWS: &[Row] = &[
 /// The workloads of a side.
 pub type Side = fn(u32, usize) -> u64;
 
-/// The time of a run of so many rounds, and its checksum.
+/// The time of a run of this many rounds, and its checksum.
 #[must_use]
 pub fn timed(side: Side, which: u32, rounds: usize) -> (u64, u64) {
     let start = now();
@@ -163,7 +163,7 @@ pub fn timed(side: Side, which: u32, rounds: usize) -> (u64, u64) {
     (now() - start, sum)
 }
 
-/// As many rounds as take some 15 ms, and several times what a run of none takes.
+/// The number of rounds that takes some 15 ms, and several times as long as a run without rounds.
 #[must_use]
 pub fn calibrated(side: Side, which: u32) -> usize {
     let set_up = (0..3).map(|_| timed(side, which, 0).0).min().unwrap_or(0);
@@ -178,7 +178,7 @@ pub fn calibrated(side: Side, which: u32) -> usize {
 }
 
 impl Row {
-    /// Measures the row: so many turns in which the sides alternate, of which the least counts, less that of a run of no rounds.
+    /// Measures the row: the least of this many turns, in which the sides alternate, minus the time of a run without rounds.
     #[must_use]
     pub fn measured(&self, turns: usize) -> Taken {
         let sides: [Side; 2] = [by_port, by_release];

@@ -1,4 +1,5 @@
-// The journal of a host: the commands that it executed, and their answers.
+//! The journal of a host: the commands that it executed, and their answers.
+
 ghost use Rattle.std.specs.Prelude.{◌≡◌, ◌++◌, ◌∷◌, [], IfOk, IfSome, OnOk};
 ghost use Rattle.rhai_lines.specs.Output.{output_of_commands, new_world};
 

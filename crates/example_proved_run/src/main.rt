@@ -68,7 +68,8 @@ fn loop_of_calls(alloc: Global) -> Result<Stmt, AllocError> {
     Ok(Stmt::While(test, body))
 }
 
-/// `x = 3; a = [1, "two"]; let f = add, which captures x; while .. a[-1] = x; if x == 11 { x = true } else { }`
+/// `x = 3; a = [1, "two"]; let f = add, which captures x; while .. a[-1] = x;
+/// if x == 11 { x = true } else { }`
 fn counts(alloc: Global) -> Result<Vec<Stmt>, AllocError> {
     let mut items = Vec::new(alloc);
     items.push(Expr::Int(1))?;

@@ -212,7 +212,8 @@ pub extern "C" fn rhai_host_hash(
     perform(alloc, handle, told, |world| world.hash(i))
 }
 
-/// Returns where a slice of a list of this length starts and how many items it has, for a start and a number of items.
+/// Returns where a slice of a list of this length starts and how many items it has, for a start and
+/// a number of items.
 #[unsafe(no_mangle)]
 pub extern "C" fn rhai_host_offset(
     alloc: Global,

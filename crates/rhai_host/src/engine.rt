@@ -249,6 +249,7 @@ pub extern "C" fn rhai_host_script_begin(
         sizes: Limits { text, items },
         entries,
         output: 0,
+        memory: 0,
         operations: u64::MAX,
         calls,
     };

@@ -55,7 +55,8 @@ pub extern "C" fn rhai_host_write_bit(
     )
 }
 
-/// Writes the int at the hand position, shifted left, to the bits of the mask in the int at the place.
+/// Writes the int at the hand position, shifted left, to the bits of the mask in the int at the
+/// place.
 #[unsafe(no_mangle)]
 pub extern "C" fn rhai_host_write_field(
     alloc: Global,

@@ -127,6 +127,7 @@ pub extern "C" fn rhai_host_run_script(
         sizes: Limits { text, items },
         entries: 0,
         output: 0,
+        memory: 0,
         operations,
         calls,
     };

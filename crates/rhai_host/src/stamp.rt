@@ -1,5 +1,6 @@
 //! The stamp of what is exported: written by `tools/host_declarations`.
 
-/// Does nothing: its name is a sum of all that is exported, so that a host of other declarations doesn't link.
+/// Does nothing: its name is a sum of all that is exported, so that a host of other declarations
+/// doesn't link.
 #[unsafe(no_mangle)]
 pub extern "C" fn rhai_host_stamp_e8e595b8b555eb6c() {}

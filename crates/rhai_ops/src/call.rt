@@ -47,7 +47,8 @@ impl FnBuiltin {
         self.call_row(alloc, store, limits, left, right)
     }
 
-    /// The same, without the contract that relates the result to the row.
+    /// The same, without the contract that relates the result to the row. It has no locals, since a
+    /// function clears its locals at entry: functions that would bring some aren't inlined.
     #[inline(always)]
     fn call_row(
         &self,

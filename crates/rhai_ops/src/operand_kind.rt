@@ -1,4 +1,4 @@
-// The constructor of a value, as far as the table distinguishes constructors.
+//! The constructor of a value, as far as the table distinguishes constructors.
 ghost use Rattle.std.specs.Prelude.{◌≡◌, IfSome, IsTrue, List, Some};
 ghost use Rattle.rhai_value.specs.declared.cells.store.Cell.{Cell};
 ghost use Rattle.rhai_value.specs.Parts.{int_of, text_of};

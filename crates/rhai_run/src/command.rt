@@ -170,11 +170,13 @@ pub enum Command {
     Ask(usize, Question),
     /// Overwrites the int held at the hand position.
     WriteInt(usize, INT),
-    /// Writes the value at the second hand position over the first content of the one at the first, and leaves unit at the second.
+    /// Writes the value at the second hand position over the first content of the one at the first,
+    /// and leaves unit at the second.
     Write(usize, usize),
     /// Appends the result of the operator on the values at the two hand positions.
     Binary(Token, usize, usize),
-    /// Calls the assignment of the operator on the value at the place and the one at the hand position.
+    /// Calls the assignment of the operator on the value at the place and the one at the hand
+    /// position.
     Assign(Token, Place, usize),
     /// Scans the value at the hand position with a scanner, and returns the number of visited
     /// values.
@@ -186,7 +188,8 @@ pub enum Command {
     PushDynamic(ImmutableString, usize),
     /// Moves the value at the hand position into a new constant entry of the name, and leaves unit.
     PushConstant(ImmutableString, usize),
-    /// Moves the value at the hand position over the value of the last entry of the name, and leaves unit.
+    /// Moves the value at the hand position over the value of the last entry of the name, and
+    /// leaves unit.
     SetEntry(ImmutableString, usize),
     /// Moves the value at the hand position over the value of the last entry of the name, and
     /// leaves unit; if there is no entry, or it is a constant, the value goes into a new one.
@@ -252,13 +255,15 @@ pub enum Command {
     /// Removes the mark at this position from the list, and unmarks its cell; later marks move
     /// down.
     Unmark(usize),
-    /// Moves the value at the hand position into the cell of the mark at this position, and leaves unit.
+    /// Moves the value at the hand position into the cell of the mark at this position, and leaves
+    /// unit.
     WriteMarked(usize, usize),
     /// Appends a copy of the content of the cell of the mark at this position.
     ReadMarked(usize),
     /// Writes the boolean at the hand position to this bit of the int at the place.
     WriteBit(Place, u8, usize),
-    /// Writes the int at the hand position, shifted left, to the bits of the mask in the int at the place.
+    /// Writes the int at the hand position, shifted left, to the bits of the mask in the int at the
+    /// place.
     WriteField(Place, INT, u8, usize),
     /// Writes the int at the hand position to the byte of this index of the blob at the place.
     WriteByte(Place, usize, usize),

@@ -226,7 +226,8 @@ impl WorldState {
 }
 
 impl World {
-    /// Moves the value at the hand position over the value of the last entry of the name, and leaves unit.
+    /// Moves the value at the hand position over the value of the last entry of the name, and
+    /// leaves unit.
     /// Errors: none; it allocates nothing.
     #[inline(always)]
     pub fn set_entry(&mut self, name: &ImmutableString, i: usize) -> Result<Answer, AllocError>

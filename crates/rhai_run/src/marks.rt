@@ -145,7 +145,8 @@ impl World {
         replied(self.state.unmark(k))
     }
 
-    /// Moves the value at the hand position into the cell of the mark at this position, and leaves unit.
+    /// Moves the value at the hand position into the cell of the mark at this position, and leaves
+    /// unit.
     /// Errors: none; it allocates nothing.
     #[inline(always)]
     pub fn write_marked(&mut self, k: usize, i: usize) -> Result<Answer, AllocError>

@@ -132,7 +132,8 @@ impl World {
         replied(self.state.binary(op, i, j))
     }
 
-    /// Calls the assignment of the operator on the value at the place and the one at the hand position.
+    /// Calls the assignment of the operator on the value at the place and the one at the hand
+    /// position.
     /// Errors: an allocation fails; nothing changes.
     #[inline(always)]
     pub fn assign(&mut self, op: Token, place: PlaceRef<'_>, j: usize) -> Result<Answer, AllocError>

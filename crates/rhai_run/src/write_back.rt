@@ -133,7 +133,8 @@ impl World {
         replied(self.state.write_bit(place, bit, j))
     }
 
-    /// Writes the int at the hand position, shifted left, to the bits of the mask in the int at the place.
+    /// Writes the int at the hand position, shifted left, to the bits of the mask in the int at the
+    /// place.
     /// Errors: none; it allocates nothing.
     #[inline(always)]
     pub fn write_field(

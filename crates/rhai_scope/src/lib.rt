@@ -1,4 +1,5 @@
-//! The named values of a script, newest last, where a later name hides an earlier one: rhai's `Scope`.
+//! The named values of a script, newest last, where a later name hides an earlier one: rhai's
+//! `Scope`.
 #![tactic(auto)]
 
 mod alias;

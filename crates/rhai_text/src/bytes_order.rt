@@ -1,5 +1,5 @@
-// Equality and order of texts by their bytes; long ones are compared sixty-four and sixteen bytes
-// at a time.
+//! Equality and order of texts by their bytes; long ones are compared sixty-four and sixteen bytes
+//! at a time.
 ghost use Rattle.std.specs.Prelude.{◌≡◌, ◌+◌, ◌<◌, ◌≤◌, length, min, nat_eq};
 ghost use Rattle.std.specs.Cmp.Lexicographic.{pointwise, slice_cmp};
 ghost use Rattle.std.specs.Ordering.{nat_cmp};

@@ -1,4 +1,4 @@
-// The edits: each makes a new text, and fails only if its allocation fails.
+//! The edits: each makes a new text, and fails only if its allocation fails.
 ghost use Rattle.std.specs.Prelude.{◌≡◌, ◌+◌, ◌-◌, ◌++◌, if◌then◌else◌, IfOk, IsTrue, slice_set, take, drop};
 ghost use Rattle.std.specs.Str.{chars, encode_utf8_all, IsAscii};
 ghost use Rattle.rhai_text.specs.Text.{minus, minus_char, slice_of, with_slice};
@@ -20,7 +20,8 @@ impl ImmutableString {
     /// Removes the occurrences of `pattern` from this text, from left to right, without overlaps.
     /// An empty pattern removes nothing.
     /// Errors: the allocation of the new text fails.
-    /// Cost: for a given pattern the length of this text; memory for the new one, none for an empty pattern.
+    /// Cost: for a given pattern the length of this text; memory for the new one, none for an empty
+    /// pattern.
     /// rhai: `-` of two texts.
     pub fn minus(&self, alloc: Global, pattern: &str) -> Result<ImmutableString, AllocError>
         ensures { IfOk result (λ t. t ≡ minus self.now (chars pattern.now)) }

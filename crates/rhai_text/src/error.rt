@@ -1,4 +1,4 @@
-// The errors of evaluating a script.
+//! The errors of evaluating a script.
 ghost use Rattle.std.specs.Prelude.{◌≡◌};
 ghost use Rattle.rhai_text.specs.Error.{at_place, is_memory, place_of};
 ghost use Rattle.rhai_text.specs.declared.error.EvalAltResult.TheVariants.{ErrorMemory, ErrorMismatchDataType};

@@ -1,4 +1,4 @@
-// Limits on the size of values.
+//! Limits on the size of values.
 
 /// The largest sizes of an operator's result. 0 means no limit.
 /// rhai: `Engine::max_string_size`, `Engine::max_array_size`.

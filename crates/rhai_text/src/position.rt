@@ -1,4 +1,4 @@
-// Positions in a script.
+//! Positions in a script.
 ghost use Rattle.std.specs.Prelude.{◌≡◌};
 
 /// A position in a script: a line, and a column. It is only passed through; nothing here depends on

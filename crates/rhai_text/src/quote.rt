@@ -1,4 +1,4 @@
-// Quoted texts and characters, with unprintable characters escaped.
+//! Quoted texts and characters, with unprintable characters escaped.
 ghost use Rattle.std.specs.Prelude.{◌≡◌, [], ◌∷◌, ◌++◌, string_bytes, IsTrue, OnOk, OnErr};
 ghost use Rattle.std.specs.Char.Escape.{escape_unicode};
 ghost use Rattle.std.specs.List.{flat_map};

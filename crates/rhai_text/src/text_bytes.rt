@@ -1,4 +1,4 @@
-// The storage of a text's bytes.
+//! The storage of a text's bytes.
 ghost use Rattle.std.specs.Prelude.{◌≡◌, ◌++◌, ◌+◌, ◌≤◌, length, IsTrue, OnErr, OnOk};
 ghost use Rattle.std.specs.Str.{chars, IsAscii};
 ghost use Rattle.rhai_text.specs.Bytes.{text_bytes};

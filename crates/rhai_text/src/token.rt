@@ -1,4 +1,4 @@
-// The operators of scripts.
+//! The operators of scripts.
 
 /// An operator: the twenty binary ones, and then the eleven assignments.
 /// rhai: `Token`, of which these are the operators of values.

@@ -1,9 +1,10 @@
-// The name of a type of values.
+//! The name of a type of values.
 ghost use Rattle.std.specs.Prelude.{◌≡◌};
 
 use std::marker::Model;
 
-/// The name of a type of values, as errors and refusals carry it. Contracts see it as the list of its bytes.
+/// The name of a type of values, as errors and refusals carry it. Contracts see it as the list of
+/// its bytes.
 #[derive(Clone, Debug, Drop)]
 pub struct TypeName {
     name: &'static str,

@@ -21,54 +21,62 @@ fn only_variable(arguments: &[Expr]) -> Option<script_tree::Slot> {
 
 impl<'p> Compiler<'p> {
     /// Calls a function, with the result in a slot.
-    #[cycle(compile)]
-    pub(crate) fn call(
+    pub(crate) fn call<P>(
         &mut self,
         callee: usize,
         arguments: &Vec<Expr>,
         position: Position,
         to: Slot,
         levels: u32,
-    ) -> Result<(), CodeError> {
+        parts: &P,
+    ) -> Result<(), CodeError>
+    where
+        P: Fn(&mut Compiler, &Expr, Option<Slot>, u32) -> Result<(), CodeError>,
+        requires { P.IsAlwaysCallable parts.now }
+    {
         let function = match self.script.callees.get(callee) {
             Some(callee) => callee.function,
             None => None,
         };
         if let Some(function) = function {
-            return self.call_script(function, arguments, position, to, levels);
+            return self.call_script(function, arguments, position, to, levels, parts);
         }
-        self.call_outside(callee, arguments, position, to, levels)
+        self.call_outside(callee, arguments, position, to, levels, parts)
     }
 
     /// Calls a function that isn't in the script.
-    #[cycle(compile)]
-    pub(crate) fn call_outside(
+    pub(crate) fn call_outside<P>(
         &mut self,
         callee: usize,
         arguments: &Vec<Expr>,
         position: Position,
         to: Slot,
         levels: u32,
-    ) -> Result<(), CodeError> {
+        parts: &P,
+    ) -> Result<(), CodeError>
+    where
+        P: Fn(&mut Compiler, &Expr, Option<Slot>, u32) -> Result<(), CodeError>,
+        requires { P.IsAlwaysCallable parts.now }
+    {
         let meaning = self.meaning(callee);
         match meaning {
-            Meaning::IsShared => self.ask_shared(arguments, position, to, levels),
-            Meaning::Print => self.print(arguments, false, position, to, levels),
-            Meaning::Debug => self.print(arguments, true, position, to, levels),
-            Meaning::Native(_) => self.call_native(callee, arguments, position, to, levels),
+            Meaning::IsShared => self.ask_shared(arguments, position, to, levels, parts),
+            Meaning::Print => self.print(arguments, false, position, to, levels, parts),
+            Meaning::Debug => self.print(arguments, true, position, to, levels, parts),
+            Meaning::Native(_) => self.call_native(callee, arguments, position, to, levels, parts),
             Meaning::Each(kind) => {
-                let first = self.values(arguments, levels)?;
+                let first = self.values(arguments, levels, parts)?;
                 self.each(first, kind, arguments.len().saturating_sub(1), position)?;
                 self.moved(to, first)
             }
-            Meaning::Sort => self.sort_first(arguments, position, to, levels),
-            Meaning::Call => self.call_function(arguments, position, to, levels),
+            Meaning::Sort => self.sort_first(arguments, position, to, levels, parts),
+            Meaning::Call => self.call_function(arguments, position, to, levels, parts),
             Meaning::Sift(_) | Meaning::Search => {
-                let first = self.values(arguments, levels)?;
+                let first = self.values(arguments, levels, parts)?;
                 self.sift_or_search(meaning, callee, arguments, first, position, to)
             }
             Meaning::Host(_) | Meaning::Curry | Meaning::IsVariable | Meaning::IsFunction => {
-                let first = self.values(arguments, levels)?;
+                let first = self.values(arguments, levels, parts)?;
                 if arguments.is_empty() {
                     self.take_slot()?;
                 }
@@ -82,20 +90,24 @@ impl<'p> Compiler<'p> {
         }
     }
 
-    #[cycle(compile)]
-    fn call_script(
+    fn call_script<P>(
         &mut self,
         function: usize,
         arguments: &Vec<Expr>,
         position: Position,
         to: Slot,
         levels: u32,
-    ) -> Result<(), CodeError> {
+        parts: &P,
+    ) -> Result<(), CodeError>
+    where
+        P: Fn(&mut Compiler, &Expr, Option<Slot>, u32) -> Result<(), CodeError>,
+        requires { P.IsAlwaysCallable parts.now }
+    {
         let is_last = self.is_free(to) && to.saturating_add(1) == self.top;
         if is_last {
             self.top = to;
         }
-        let first = self.values(arguments, levels)?;
+        let first = self.values(arguments, levels, parts)?;
         if arguments.is_empty() {
             self.take_slot()?;
         }
@@ -105,14 +117,18 @@ impl<'p> Compiler<'p> {
     }
 
     /// Calls the function pointer in the first argument with the others.
-    #[cycle(compile)]
-    fn call_function(
+    fn call_function<P>(
         &mut self,
         arguments: &Vec<Expr>,
         position: Position,
         to: Slot,
         levels: u32,
-    ) -> Result<(), CodeError> {
+        parts: &P,
+    ) -> Result<(), CodeError>
+    where
+        P: Fn(&mut Compiler, &Expr, Option<Slot>, u32) -> Result<(), CodeError>,
+        requires { P.IsAlwaysCallable parts.now }
+    {
         let Some((pointer, others)) = arguments.split_first() else {
             return Ok(());
         };
@@ -120,8 +136,8 @@ impl<'p> Compiler<'p> {
             Some(slot) => self.watched(slot).stays_in_all(others),
             None => true,
         };
-        let called = self.operand(pointer, stays, levels)?;
-        let first = self.values(others, levels)?;
+        let called = self.operand(pointer, stays, levels, parts)?;
+        let first = self.values(others, levels, parts)?;
         if others.is_empty() {
             self.take_slot()?;
         }
@@ -131,14 +147,18 @@ impl<'p> Compiler<'p> {
     }
 
     /// Tests whether a variable is shared; a value outside a variable isn't.
-    #[cycle(compile)]
-    fn ask_shared(
+    fn ask_shared<P>(
         &mut self,
         arguments: &Vec<Expr>,
         position: Position,
         to: Slot,
         levels: u32,
-    ) -> Result<(), CodeError> {
+        parts: &P,
+    ) -> Result<(), CodeError>
+    where
+        P: Fn(&mut Compiler, &Expr, Option<Slot>, u32) -> Result<(), CodeError>,
+        requires { P.IsAlwaysCallable parts.now }
+    {
         if let Some(slot) = only_variable(arguments) {
             for argument in arguments {
                 self.check_expr(argument)?;
@@ -148,22 +168,26 @@ impl<'p> Compiler<'p> {
             self.emit_at(Op::IsShared(to, slot, path), position)?;
             return Ok(());
         }
-        self.values(arguments, levels)?;
+        self.values(arguments, levels, parts)?;
         self.emit_at(Op::Bool(to, false), position)?;
         Ok(())
     }
 
-    #[cycle(compile)]
-    fn print(
+    fn print<P>(
         &mut self,
         arguments: &Vec<Expr>,
         is_debug: bool,
         position: Position,
         to: Slot,
         levels: u32,
-    ) -> Result<(), CodeError> {
+        parts: &P,
+    ) -> Result<(), CodeError>
+    where
+        P: Fn(&mut Compiler, &Expr, Option<Slot>, u32) -> Result<(), CodeError>,
+        requires { P.IsAlwaysCallable parts.now }
+    {
         for argument in arguments {
-            let slot = self.operand(argument, true, levels)?;
+            let slot = self.operand(argument, true, levels, parts)?;
             self.emit_at(Op::Print(slot, is_debug), position)?;
         }
         self.emit(Op::Unit(to))?;
@@ -171,23 +195,27 @@ impl<'p> Compiler<'p> {
     }
 
     /// Calls a function of the packages; a variable as the first argument is used in place.
-    #[cycle(compile)]
-    fn call_native(
+    fn call_native<P>(
         &mut self,
         callee: usize,
         arguments: &Vec<Expr>,
         position: Position,
         to: Slot,
         levels: u32,
-    ) -> Result<(), CodeError> {
+        parts: &P,
+    ) -> Result<(), CodeError>
+    where
+        P: Fn(&mut Compiler, &Expr, Option<Slot>, u32) -> Result<(), CodeError>,
+        requires { P.IsAlwaysCallable parts.now }
+    {
         let number = to_number(callee)?;
         if let Some((first, others)) = arguments.split_first() {
             if let Some(slot) = known_variable(first) {
                 self.check_expr(first)?;
-                return self.native_on(number, slot, others, position, to, levels);
+                return self.native_on(number, slot, others, position, to, levels, parts);
             }
         }
-        let first = self.values(arguments, levels)?;
+        let first = self.values(arguments, levels, parts)?;
         if arguments.is_empty() {
             self.take_slot()?;
             self.emit(Op::Unit(first))?;
@@ -197,8 +225,7 @@ impl<'p> Compiler<'p> {
     }
 
     /// Calls a function of the packages on a variable, with other arguments.
-    #[cycle(compile)]
-    fn native_on(
+    fn native_on<P>(
         &mut self,
         number: u32,
         slot: script_tree::Slot,
@@ -206,14 +233,19 @@ impl<'p> Compiler<'p> {
         position: Position,
         to: Slot,
         levels: u32,
-    ) -> Result<(), CodeError> {
+        parts: &P,
+    ) -> Result<(), CodeError>
+    where
+        P: Fn(&mut Compiler, &Expr, Option<Slot>, u32) -> Result<(), CodeError>,
+        requires { P.IsAlwaysCallable parts.now }
+    {
         let stays = self.watched(slot).stays_in_all(others);
         let variable = self.slot_of(slot)?;
         let base = self.take_slot()?;
         if !stays {
             self.emit(Op::Copy(base, variable))?;
         }
-        self.values(others, levels)?;
+        self.values(others, levels, parts)?;
         let place = Place {
             position,
             flag: !stays,

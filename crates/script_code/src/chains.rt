@@ -1,4 +1,5 @@
-//! Chains of indices, properties and methods. The indices and arguments of all steps are evaluated first, and the root after them.
+//! Chains of indices, properties and methods. The indices and arguments of all steps are evaluated
+//! first, and the root after them.
 
 use crate::compiler::{Compiler, to_slot};
 use crate::error::CodeError;
@@ -47,21 +48,25 @@ fn method_from(steps: &[Step], first: usize) -> usize {
 
 impl<'p> Compiler<'p> {
     /// Evaluates a chain into a slot.
-    #[cycle(compile)]
-    pub(crate) fn chain(
+    pub(crate) fn chain<P>(
         &mut self,
         root: &Expr,
         steps: &Vec<Step>,
         to: Slot,
         levels: u32,
-    ) -> Result<(), CodeError> {
+        parts: &P,
+    ) -> Result<(), CodeError>
+    where
+        P: Fn(&mut Compiler, &Expr, Option<Slot>, u32) -> Result<(), CodeError>,
+        requires { P.IsAlwaysCallable parts.now }
+    {
         let mut methods = Vec::new(self.alloc);
         if self.is_free(to) && to.saturating_add(1) == self.top {
             self.top = to;
         }
         let mut tests = Vec::new(self.alloc);
-        let rest = self.operands(root, steps, &mut methods, &mut tests, levels)?;
-        let Some(mut at) = self.root(root, methods.as_slice(), levels)? else {
+        let rest = self.operands(root, steps, &mut methods, &mut tests, levels, parts)?;
+        let Some(mut at) = self.root(root, methods.as_slice(), levels, parts)? else {
             return Ok(());
         };
         let mut ends = Vec::new(self.alloc);
@@ -116,15 +121,19 @@ impl<'p> Compiler<'p> {
 
     /// Evaluates the indices and arguments of all steps: adds the methods, and returns the steps
     /// after the last.
-    #[cycle(compile)]
-    fn operands(
+    fn operands<P>(
         &mut self,
         root: &Expr,
         steps: &Vec<Step>,
         methods: &mut Vec<Called>,
         tests: &mut Vec<usize>,
         levels: u32,
-    ) -> Result<Vec<PathStep>, CodeError> {
+        parts: &P,
+    ) -> Result<Vec<PathStep>, CodeError>
+    where
+        P: Fn(&mut Compiler, &Expr, Option<Slot>, u32) -> Result<(), CodeError>,
+        requires { P.IsAlwaysCallable parts.now }
+    {
         let mut next = 0;
         let mut path = Vec::new(self.alloc);
         for number in 0..steps.len() {
@@ -135,7 +144,7 @@ impl<'p> Compiler<'p> {
             let between = steps.as_slice().get(number..end).unwrap_or(&[]);
             let behind = steps.as_slice().get(end..).unwrap_or(&[]);
             let mut found = Vec::new(self.alloc);
-            path = self.steps(between, root, behind, &mut found, levels)?;
+            path = self.steps(between, root, behind, &mut found, levels, parts)?;
             next = end.saturating_add(1);
             if let Some(
                 Step::Method {
@@ -150,7 +159,7 @@ impl<'p> Compiler<'p> {
                 if !is_direct {
                     self.take_slot()?;
                 }
-                self.values(arguments, levels)?;
+                self.values(arguments, levels, parts)?;
                 if self.top == receiver {
                     self.take_slot()?;
                 }
@@ -177,13 +186,17 @@ impl<'p> Compiler<'p> {
     }
 
     /// Compiles the root of a chain; `None` if it is an unknown name.
-    #[cycle(compile)]
-    fn root(
+    fn root<P>(
         &mut self,
         root: &Expr,
         methods: &[Called],
         levels: u32,
-    ) -> Result<Option<Root>, CodeError> {
+        parts: &P,
+    ) -> Result<Option<Root>, CodeError>
+    where
+        P: Fn(&mut Compiler, &Expr, Option<Slot>, u32) -> Result<(), CodeError>,
+        requires { P.IsAlwaysCallable parts.now }
+    {
         if let Expr::Variable { variable, position } = root {
             return match variable {
                 Variable::Known(slot) => {
@@ -201,7 +214,7 @@ impl<'p> Compiler<'p> {
             Some(method) => method.receiver,
             None => self.take_slot()?,
         };
-        self.value(root, slot, levels)?;
+        parts(self, root, Some(slot), levels)?;
         Ok(Some(Root::Made(slot)))
     }
 

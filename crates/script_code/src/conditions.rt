@@ -46,15 +46,20 @@ fn are_all(terms: &[Term], operator: Operator) -> bool {
 impl<'p> Compiler<'p> {
     /// Adds jumps that are taken if an expression has this value. At a place, anything but a
     /// boolean is a fault.
-    #[cycle(compile)]
-    pub(crate) fn condition(
+    #[cycle(condition)]
+    pub(crate) fn condition<P>(
         &mut self,
         expr: &Expr,
         wanted: bool,
         position: Position,
         jumps: &mut Vec<usize>,
         levels: u32,
-    ) -> Result<(), CodeError> {
+        parts: &P,
+    ) -> Result<(), CodeError>
+    where
+        P: Fn(&mut Compiler, &Expr, Option<Slot>, u32) -> Result<(), CodeError>,
+        requires { P.IsAlwaysCallable parts.now }
+    {
         if levels == 0 {
             return Err(CodeError::TooLarge(self.position));
         }
@@ -71,28 +76,32 @@ impl<'p> Compiler<'p> {
             position,
         } = expr
         {
-            return self.condition(operand, !wanted, *position, jumps, levels);
+            return self.condition(operand, !wanted, *position, jumps, levels, parts);
         }
         if let Expr::Run { first, rest } = expr {
-            if self.run_condition(first, rest, wanted, jumps, levels)? {
+            if self.run_condition(first, rest, wanted, jumps, levels, parts)? {
                 return Ok(());
             }
         }
-        self.plain_condition(expr, wanted, position, jumps, levels)
+        self.plain_condition(expr, wanted, position, jumps, levels, parts)
     }
 
     /// Jumps on the value of an expression.
-    #[cycle(compile)]
-    fn plain_condition(
+    fn plain_condition<P>(
         &mut self,
         expr: &Expr,
         wanted: bool,
         position: Position,
         jumps: &mut Vec<usize>,
         levels: u32,
-    ) -> Result<(), CodeError> {
+        parts: &P,
+    ) -> Result<(), CodeError>
+    where
+        P: Fn(&mut Compiler, &Expr, Option<Slot>, u32) -> Result<(), CodeError>,
+        requires { P.IsAlwaysCallable parts.now }
+    {
         let top = self.top;
-        let slot = self.operand(expr, true, levels)?;
+        let slot = self.operand(expr, true, levels, parts)?;
         let op = if wanted {
             Op::JumpIf(slot, 0)
         } else {
@@ -104,35 +113,40 @@ impl<'p> Compiler<'p> {
     }
 
     /// Jumps on a comparison, or on lazy operators of one kind; returns whether the terms are such.
-    #[cycle(compile)]
-    fn run_condition(
+    #[cycle(condition)]
+    fn run_condition<P>(
         &mut self,
         first: &Expr,
         rest: &Vec<Term>,
         wanted: bool,
         jumps: &mut Vec<usize>,
         levels: u32,
-    ) -> Result<bool, CodeError> {
+        parts: &P,
+    ) -> Result<bool, CodeError>
+    where
+        P: Fn(&mut Compiler, &Expr, Option<Slot>, u32) -> Result<(), CodeError>,
+        requires { P.IsAlwaysCallable parts.now }
+    {
         if are_all(rest, Operator::And) {
-            self.lazy_condition(first, rest, false, wanted, jumps, levels)?;
+            self.lazy_condition(first, rest, false, wanted, jumps, levels, parts)?;
             return Ok(true);
         }
         if are_all(rest, Operator::Or) {
-            self.lazy_condition(first, rest, true, wanted, jumps, levels)?;
+            self.lazy_condition(first, rest, true, wanted, jumps, levels, parts)?;
             return Ok(true);
         }
         let [term] = rest.as_slice() else {
             return Ok(false);
         };
         match term.operator {
-            Operator::Plain(op) => self.comparison(first, term, op, wanted, jumps, levels),
+            Operator::Plain(op) => self.comparison(first, term, op, wanted, jumps, levels, parts),
             Operator::And | Operator::Or | Operator::Coalesce => Ok(false),
         }
     }
 
     /// Compiles lazy operators that are decided as soon as an operand has this value.
-    #[cycle(compile)]
-    fn lazy_condition(
+    #[cycle(condition)]
+    fn lazy_condition<P>(
         &mut self,
         first: &Expr,
         rest: &Vec<Term>,
@@ -140,19 +154,31 @@ impl<'p> Compiler<'p> {
         wanted: bool,
         jumps: &mut Vec<usize>,
         levels: u32,
-    ) -> Result<(), CodeError> {
+        parts: &P,
+    ) -> Result<(), CodeError>
+    where
+        P: Fn(&mut Compiler, &Expr, Option<Slot>, u32) -> Result<(), CodeError>,
+        requires { P.IsAlwaysCallable parts.now }
+    {
         let mut settles = Vec::new(self.alloc);
         let position = match rest.first() {
             Some(term) => term.position,
             None => self.position,
         };
-        self.condition(first, settled, position, &mut settles, levels)?;
+        self.condition(first, settled, position, &mut settles, levels, parts)?;
         let last = rest.len().saturating_sub(1);
         for (number, term) in rest.iter().enumerate() {
             if number < last || settled == wanted {
-                self.condition(&term.operand, settled, term.position, &mut settles, levels)?;
+                self.condition(
+                    &term.operand,
+                    settled,
+                    term.position,
+                    &mut settles,
+                    levels,
+                    parts,
+                )?;
             } else {
-                self.condition(&term.operand, wanted, term.position, jumps, levels)?;
+                self.condition(&term.operand, wanted, term.position, jumps, levels, parts)?;
             }
         }
         if settled == wanted {
@@ -165,8 +191,7 @@ impl<'p> Compiler<'p> {
     }
 
     /// Jumps on one operator, if it compares.
-    #[cycle(compile)]
-    fn comparison(
+    fn comparison<P>(
         &mut self,
         first: &Expr,
         term: &Term,
@@ -174,7 +199,12 @@ impl<'p> Compiler<'p> {
         wanted: bool,
         jumps: &mut Vec<usize>,
         levels: u32,
-    ) -> Result<bool, CodeError> {
+        parts: &P,
+    ) -> Result<bool, CodeError>
+    where
+        P: Fn(&mut Compiler, &Expr, Option<Slot>, u32) -> Result<(), CodeError>,
+        requires { P.IsAlwaysCallable parts.now }
+    {
         let Kind::Compares(comparison) = kind_of(op) else {
             return Ok(false);
         };
@@ -185,10 +215,14 @@ impl<'p> Compiler<'p> {
         };
         let top = self.top;
         let stays = self.stays_in(first, &term.operand);
-        let left = self.operand(first, stays, levels)?;
+        let left = self.operand(first, stays, levels, parts)?;
         let jump = match small_int(&term.operand) {
             Some(int) => comparing_int(comparison, left, int),
-            None => comparing(comparison, left, self.operand(&term.operand, true, levels)?),
+            None => comparing(
+                comparison,
+                left,
+                self.operand(&term.operand, true, levels, parts)?,
+            ),
         };
         let place = Place {
             position: term.position,

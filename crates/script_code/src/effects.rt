@@ -10,21 +10,25 @@ use script_tree::{Arm, Block, Expr};
 /// Blocks.
 impl<'p> Compiler<'p> {
     /// Compiles the statements of a block; the value of the last goes to a slot if it is used.
-    #[cycle(compile)]
-    pub(crate) fn statements(
+    pub(crate) fn statements<P>(
         &mut self,
         block: &Block,
         to: Option<Slot>,
         levels: u32,
-    ) -> Result<(), CodeError> {
+        parts: &P,
+    ) -> Result<(), CodeError>
+    where
+        P: Fn(&mut Compiler, &Expr, Option<Slot>, u32) -> Result<(), CodeError>,
+        requires { P.IsAlwaysCallable parts.now }
+    {
         let outer = self.in_sight.len();
         let last = block.statements.len().saturating_sub(1);
         for (number, statement) in block.statements.iter().enumerate() {
             self.begin_statement(block, number);
             if number == last {
-                self.evaluate(statement, to, levels)?;
+                parts(self, statement, to, levels)?;
             } else {
-                self.effect(statement, levels)?;
+                parts(self, statement, None, levels)?;
             }
             self.end_statement();
         }
@@ -35,114 +39,42 @@ impl<'p> Compiler<'p> {
     }
 
     /// Compiles a block, whose variables end with it.
-    #[cycle(compile)]
-    pub(crate) fn block(
+    pub(crate) fn block<P>(
         &mut self,
         block: &Block,
         to: Option<Slot>,
         levels: u32,
-    ) -> Result<(), CodeError> {
-        self.statements(block, to, levels)?;
+        parts: &P,
+    ) -> Result<(), CodeError>
+    where
+        P: Fn(&mut Compiler, &Expr, Option<Slot>, u32) -> Result<(), CodeError>,
+        requires { P.IsAlwaysCallable parts.now }
+    {
+        self.statements(block, to, levels, parts)?;
         self.clear_variables(block.first_slot, block.end_slot, to)
     }
 
     /// Compiles an expression; its value goes to a slot if it is used.
-    #[cycle(compile)]
+    ///
+    /// The parts of the expression are compiled through `parts`, a closure that calls `evaluate`.
+    /// The functions for the kinds of expressions receive it, so they don't call each other in a
+    /// circle. A part has fewer levels than the whole; the closure tests that.
     pub(crate) fn evaluate(
         &mut self,
         expr: &Expr,
         to: Option<Slot>,
         levels: u32,
     ) -> Result<(), CodeError> {
-        match to {
-            Some(to) => self.value(expr, to, levels),
-            None => self.effect(expr, levels),
-        }
-    }
-
-    /// Compiles the statements of a function, and returns the value of the last to the caller.
-    #[cycle(tail)]
-    pub(crate) fn tail_block(&mut self, block: &Block, levels: u32) -> Result<(), CodeError> {
-        let outer = self.in_sight.len();
-        let last = block.statements.len().saturating_sub(1);
-        for (number, statement) in block.statements.iter().enumerate() {
-            self.begin_statement(block, number);
-            if number == last {
-                self.tail(statement, levels)?;
+        let parts = |compiler: &mut Compiler, part: &Expr, to: Option<Slot>, below: u32| {
+            if below < levels {
+                compiler.evaluate(part, to, below)
             } else {
-                self.effect(statement, levels)?;
+                Err(CodeError::TooLarge(compiler.position))
             }
-            self.end_statement();
-        }
-        if block.statements.is_empty() {
-            self.give_unit()?;
-        }
-        self.hide_variables(outer)
-    }
-
-    /// Compiles an expression, and returns its value to the caller.
-    #[cycle(tail)]
-    pub(crate) fn tail(&mut self, expr: &Expr, levels: u32) -> Result<(), CodeError> {
-        if levels == 0 {
-            return Err(CodeError::TooLarge(self.position));
-        }
-        let levels = levels - 1;
-        match expr {
-            Expr::Block(block) => self.tail_block(block, levels),
-            Expr::If { arms, otherwise } => self.tail_arms(arms, otherwise, levels),
-            Expr::Let { .. } | Expr::Assign { .. } => {
-                self.effect(expr, levels)?;
-                self.give_unit()
-            }
-            Expr::Unit
-            | Expr::Bool(_)
-            | Expr::Int(_)
-            | Expr::Char(_)
-            | Expr::Text(_)
-            | Expr::Array(_)
-            | Expr::Object(_)
-            | Expr::Variable { .. }
-            | Expr::Unary { .. }
-            | Expr::Run { .. }
-            | Expr::Contains { .. }
-            | Expr::Chain { .. }
-            | Expr::Call { .. }
-            | Expr::Closure { .. }
-            | Expr::Switch(_)
-            | Expr::While(_)
-            | Expr::Do(_, _)
-            | Expr::Loop(_)
-            | Expr::For { .. }
-            | Expr::Break(_)
-            | Expr::Continue
-            | Expr::Return(_)
-            | Expr::Throw(_, _)
-            | Expr::Try { .. } => {
-                let top = self.top;
-                let slot = self.operand(expr, true, levels)?;
-                self.give(slot)?;
-                self.top = top;
-                Ok(())
-            }
-        }
-    }
-
-    #[cycle(tail)]
-    fn tail_arms(
-        &mut self,
-        arms: &Vec<Arm>,
-        otherwise: &Option<Block>,
-        levels: u32,
-    ) -> Result<(), CodeError> {
-        for arm in arms {
-            let mut skips = Vec::new(self.alloc);
-            self.condition(&arm.condition, false, arm.position, &mut skips, levels)?;
-            self.tail_block(&arm.body, levels)?;
-            self.land(skips.as_slice())?;
-        }
-        match otherwise {
-            Some(block) => self.tail_block(block, levels),
-            None => self.give_unit(),
+        };
+        match to {
+            Some(to) => self.value(expr, to, levels, &parts),
+            None => self.effect(expr, levels, &parts),
         }
     }
 }
@@ -150,8 +82,11 @@ impl<'p> Compiler<'p> {
 /// Statements.
 impl<'p> Compiler<'p> {
     /// Compiles an expression whose value isn't used.
-    #[cycle(compile)]
-    pub(crate) fn effect(&mut self, expr: &Expr, levels: u32) -> Result<(), CodeError> {
+    pub(crate) fn effect<P>(&mut self, expr: &Expr, levels: u32, parts: &P) -> Result<(), CodeError>
+    where
+        P: Fn(&mut Compiler, &Expr, Option<Slot>, u32) -> Result<(), CodeError>,
+        requires { P.IsAlwaysCallable parts.now }
+    {
         if levels == 0 {
             return Err(CodeError::TooLarge(self.position));
         }
@@ -164,7 +99,7 @@ impl<'p> Compiler<'p> {
                 value,
                 name,
             } => {
-                self.declare(*slot, *is_constant, value, levels)?;
+                self.declare(*slot, *is_constant, value, levels, parts)?;
                 self.show_own(name.as_str(), *slot)?;
             }
             Expr::Assign {
@@ -183,6 +118,7 @@ impl<'p> Compiler<'p> {
                     value,
                     *position,
                     levels,
+                    parts,
                 )?;
             }
             Expr::Block(_)
@@ -192,11 +128,11 @@ impl<'p> Compiler<'p> {
             | Expr::Do(_, _)
             | Expr::Loop(_)
             | Expr::For { .. }
-            | Expr::Try { .. } => self.construct(expr, None, levels)?,
-            Expr::Break(value) => self.leave_loop(value, levels)?,
+            | Expr::Try { .. } => self.construct(expr, None, levels, parts)?,
+            Expr::Break(value) => self.leave_loop(value, levels, parts)?,
             Expr::Continue => self.next_round()?,
-            Expr::Return(value) => self.leave_function(value, levels)?,
-            Expr::Throw(value, position) => self.throw(value, *position, levels)?,
+            Expr::Return(value) => self.leave_function(value, levels, parts)?,
+            Expr::Throw(value, position) => self.throw(value, *position, levels, parts)?,
             Expr::Unit
             | Expr::Bool(_)
             | Expr::Int(_)
@@ -211,7 +147,7 @@ impl<'p> Compiler<'p> {
             | Expr::Chain { .. }
             | Expr::Call { .. }
             | Expr::Closure { .. } => {
-                let _slot = self.operand(expr, true, levels)?;
+                let _slot = self.operand(expr, true, levels, parts)?;
             }
         }
         self.top = top;
@@ -219,20 +155,24 @@ impl<'p> Compiler<'p> {
     }
 
     /// Compiles a construct that consists of blocks.
-    #[cycle(compile)]
-    pub(crate) fn construct(
+    pub(crate) fn construct<P>(
         &mut self,
         expr: &Expr,
         to: Option<Slot>,
         levels: u32,
-    ) -> Result<(), CodeError> {
+        parts: &P,
+    ) -> Result<(), CodeError>
+    where
+        P: Fn(&mut Compiler, &Expr, Option<Slot>, u32) -> Result<(), CodeError>,
+        requires { P.IsAlwaysCallable parts.now }
+    {
         match expr {
-            Expr::Block(block) => self.block(block, to, levels),
-            Expr::If { arms, otherwise } => self.arms(arms, otherwise, to, levels),
-            Expr::Switch(switch) => self.switch(switch, to, levels),
-            Expr::While(arm) => self.while_loop(arm, to, levels),
-            Expr::Do(arm, goes_on) => self.do_loop(arm, *goes_on, to, levels),
-            Expr::Loop(body) => self.endless_loop(body, to, levels),
+            Expr::Block(block) => self.block(block, to, levels, parts),
+            Expr::If { arms, otherwise } => self.arms(arms, otherwise, to, levels, parts),
+            Expr::Switch(switch) => self.switch(switch, to, levels, parts),
+            Expr::While(arm) => self.while_loop(arm, to, levels, parts),
+            Expr::Do(arm, goes_on) => self.do_loop(arm, *goes_on, to, levels, parts),
+            Expr::Loop(body) => self.endless_loop(body, to, levels, parts),
             Expr::For {
                 item,
                 index,
@@ -246,14 +186,16 @@ impl<'p> Compiler<'p> {
                     item: item_name,
                     index: index_name,
                 };
-                self.for_loop(*item, *index, names, source, *position, body, to, levels)
+                self.for_loop(
+                    *item, *index, names, source, *position, body, to, levels, parts,
+                )
             }
             Expr::Try {
                 body,
                 error,
                 handler,
                 error_name,
-            } => self.attempt(body, *error, error_name, handler, to, levels),
+            } => self.attempt(body, *error, error_name, handler, to, levels, parts),
             Expr::Unit
             | Expr::Bool(_)
             | Expr::Int(_)
@@ -277,31 +219,39 @@ impl<'p> Compiler<'p> {
         }
     }
 
-    #[cycle(compile)]
-    fn declare(
+    fn declare<P>(
         &mut self,
         slot: usize,
         is_constant: bool,
         value: &Option<Box<Expr>>,
         levels: u32,
-    ) -> Result<(), CodeError> {
+        parts: &P,
+    ) -> Result<(), CodeError>
+    where
+        P: Fn(&mut Compiler, &Expr, Option<Slot>, u32) -> Result<(), CodeError>,
+        requires { P.IsAlwaysCallable parts.now }
+    {
         let to = self.own(slot)?;
-        self.value_or_unit(value, to, levels)?;
+        self.value_or_unit(value, to, levels, parts)?;
         if is_constant {
             self.emit(Op::Constant(to))?;
         }
         Ok(())
     }
 
-    #[cycle(compile)]
-    fn value_or_unit(
+    pub(crate) fn value_or_unit<P>(
         &mut self,
         value: &Option<Box<Expr>>,
         to: Slot,
         levels: u32,
-    ) -> Result<(), CodeError> {
+        parts: &P,
+    ) -> Result<(), CodeError>
+    where
+        P: Fn(&mut Compiler, &Expr, Option<Slot>, u32) -> Result<(), CodeError>,
+        requires { P.IsAlwaysCallable parts.now }
+    {
         match value {
-            Some(value) => self.value(value, to, levels),
+            Some(value) => parts(self, value, Some(to), levels),
             None => {
                 self.emit(Op::Unit(to))?;
                 Ok(())
@@ -309,129 +259,43 @@ impl<'p> Compiler<'p> {
         }
     }
 
-    #[cycle(compile)]
-    fn arms(
+    fn arms<P>(
         &mut self,
         arms: &Vec<Arm>,
         otherwise: &Option<Block>,
         to: Option<Slot>,
         levels: u32,
-    ) -> Result<(), CodeError> {
+        parts: &P,
+    ) -> Result<(), CodeError>
+    where
+        P: Fn(&mut Compiler, &Expr, Option<Slot>, u32) -> Result<(), CodeError>,
+        requires { P.IsAlwaysCallable parts.now }
+    {
         let mut ends = Vec::new(self.alloc);
         let last = arms.len().saturating_sub(1);
         for (number, arm) in arms.iter().enumerate() {
             let mut skips = Vec::new(self.alloc);
-            self.condition(&arm.condition, false, arm.position, &mut skips, levels)?;
-            self.block(&arm.body, to, levels)?;
+            self.condition(
+                &arm.condition,
+                false,
+                arm.position,
+                &mut skips,
+                levels,
+                parts,
+            )?;
+            self.block(&arm.body, to, levels, parts)?;
             if number < last || otherwise.is_some() || to.is_some() {
                 ends.push(self.emit(Op::Jump(0))?)?;
             }
             self.land(skips.as_slice())?;
         }
         match (otherwise, to) {
-            (Some(block), to) => self.block(block, to, levels)?,
+            (Some(block), to) => self.block(block, to, levels, parts)?,
             (None, Some(to)) => {
                 self.emit(Op::Unit(to))?;
             }
             (None, None) => {}
         }
         self.land(ends.as_slice())
-    }
-}
-
-/// Jumps out of constructs.
-impl<'p> Compiler<'p> {
-    #[cycle(compile)]
-    fn throw(
-        &mut self,
-        value: &Option<Box<Expr>>,
-        position: Position,
-        levels: u32,
-    ) -> Result<(), CodeError> {
-        let slot = self.take_slot()?;
-        self.value_or_unit(value, slot, levels)?;
-        self.emit_at(Op::Throw(slot), position)?;
-        Ok(())
-    }
-
-    /// Ends the function's `try` blocks inside this many outer ones.
-    pub(crate) fn end_tries(&mut self, outer: usize) -> Result<(), CodeError> {
-        for _ in outer..self.tries {
-            self.emit(Op::TryEnd)?;
-        }
-        Ok(())
-    }
-
-    #[cycle(compile)]
-    fn leave_function(&mut self, value: &Option<Box<Expr>>, levels: u32) -> Result<(), CodeError> {
-        let Some(value) = value else {
-            self.end_tries(0)?;
-            return self.give_unit();
-        };
-        let slot = self.operand(value, true, levels)?;
-        self.end_tries(0)?;
-        self.give(slot)
-    }
-
-    #[cycle(compile)]
-    fn leave_loop(&mut self, value: &Option<Box<Expr>>, levels: u32) -> Result<(), CodeError> {
-        let (to, tries) = match self.rounds.last() {
-            Some(round) => (round.to, round.tries),
-            None => (None, self.tries),
-        };
-        match (value, to) {
-            (value, Some(to)) => self.value_or_unit(value, to, levels)?,
-            (Some(value), None) => self.effect(value, levels)?,
-            (None, None) => {}
-        }
-        self.end_tries(tries)?;
-        let jump = self.emit(Op::Jump(0))?;
-        if let Some(round) = self.rounds.last_mut() {
-            round.breaks.push(jump)?;
-        }
-        Ok(())
-    }
-
-    fn next_round(&mut self) -> Result<(), CodeError> {
-        let tries = match self.rounds.last() {
-            Some(round) => round.tries,
-            None => self.tries,
-        };
-        self.end_tries(tries)?;
-        let jump = self.emit(Op::Jump(0))?;
-        if let Some(round) = self.rounds.last_mut() {
-            round.continues.push(jump)?;
-        }
-        Ok(())
-    }
-
-    #[cycle(compile)]
-    fn attempt(
-        &mut self,
-        body: &Block,
-        error: Option<usize>,
-        error_name: &Option<ImmutableString>,
-        handler: &Block,
-        to: Option<Slot>,
-        levels: u32,
-    ) -> Result<(), CodeError> {
-        let slot = match error {
-            Some(slot) => self.own(slot)?,
-            None => self.take_slot()?,
-        };
-        let begin = self.emit(Op::Try(slot, 0))?;
-        self.tries = self.tries.saturating_add(1);
-        self.block(body, to, levels)?;
-        self.tries = self.tries.saturating_sub(1);
-        self.emit(Op::TryEnd)?;
-        let end = self.emit(Op::Jump(0))?;
-        self.land(&[begin])?;
-        let outer = self.in_sight.len();
-        if let Some(name) = error_name {
-            self.show(name.as_str(), slot)?;
-        }
-        self.block(handler, to, levels)?;
-        self.hide_variables(outer)?;
-        self.land(&[end])
     }
 }

@@ -4,20 +4,24 @@ use crate::compiler::{Compiler, to_slot};
 use crate::error::CodeError;
 use crate::operations::{Op, Slot};
 use crate::program::Kept;
-use script_tree::{Block, Expr};
+use script_tree::{Arm, Block, Expr};
 
 /// Ends.
 impl<'p> Compiler<'p> {
     /// Compiles the statements outside functions. The variables that they declare outlive them.
-    pub(crate) fn body(&mut self, block: &Block, levels: u32) -> Result<(), CodeError> {
+    pub(crate) fn body<P>(&mut self, block: &Block, levels: u32, parts: &P) -> Result<(), CodeError>
+    where
+        P: Fn(&mut Compiler, &Expr, Option<Slot>, u32) -> Result<(), CodeError>,
+        requires { P.IsAlwaysCallable parts.now }
+    {
         self.is_body = true;
         let last = block.statements.len().saturating_sub(1);
         for (number, statement) in block.statements.iter().enumerate() {
             self.begin_statement(block, number);
             if number == last && !matches!(statement, Expr::Let { .. }) {
-                self.tail(statement, levels)?;
+                self.tail(statement, levels, parts)?;
             } else {
-                self.effect(statement, levels)?;
+                parts(self, statement, None, levels)?;
                 self.keep(statement)?;
             }
             self.end_statement();
@@ -84,5 +88,119 @@ impl<'p> Compiler<'p> {
         }
         self.top = top;
         Ok(())
+    }
+}
+
+/// Values that are returned to the caller.
+impl<'p> Compiler<'p> {
+    /// Compiles the statements of a function, and returns the value of the last to the caller.
+    #[cycle(tail)]
+    pub(crate) fn tail_block<P>(
+        &mut self,
+        block: &Block,
+        levels: u32,
+        parts: &P,
+    ) -> Result<(), CodeError>
+    where
+        P: Fn(&mut Compiler, &Expr, Option<Slot>, u32) -> Result<(), CodeError>,
+        requires { P.IsAlwaysCallable parts.now }
+    {
+        let outer = self.in_sight.len();
+        let last = block.statements.len().saturating_sub(1);
+        for (number, statement) in block.statements.iter().enumerate() {
+            self.begin_statement(block, number);
+            if number == last {
+                self.tail(statement, levels, parts)?;
+            } else {
+                parts(self, statement, None, levels)?;
+            }
+            self.end_statement();
+        }
+        if block.statements.is_empty() {
+            self.give_unit()?;
+        }
+        self.hide_variables(outer)
+    }
+
+    /// Compiles an expression, and returns its value to the caller.
+    #[cycle(tail)]
+    pub(crate) fn tail<P>(&mut self, expr: &Expr, levels: u32, parts: &P) -> Result<(), CodeError>
+    where
+        P: Fn(&mut Compiler, &Expr, Option<Slot>, u32) -> Result<(), CodeError>,
+        requires { P.IsAlwaysCallable parts.now }
+    {
+        if levels == 0 {
+            return Err(CodeError::TooLarge(self.position));
+        }
+        let levels = levels - 1;
+        match expr {
+            Expr::Block(block) => self.tail_block(block, levels, parts),
+            Expr::If { arms, otherwise } => self.tail_arms(arms, otherwise, levels, parts),
+            Expr::Let { .. } | Expr::Assign { .. } => {
+                parts(self, expr, None, levels)?;
+                self.give_unit()
+            }
+            Expr::Unit
+            | Expr::Bool(_)
+            | Expr::Int(_)
+            | Expr::Char(_)
+            | Expr::Text(_)
+            | Expr::Array(_)
+            | Expr::Object(_)
+            | Expr::Variable { .. }
+            | Expr::Unary { .. }
+            | Expr::Run { .. }
+            | Expr::Contains { .. }
+            | Expr::Chain { .. }
+            | Expr::Call { .. }
+            | Expr::Closure { .. }
+            | Expr::Switch(_)
+            | Expr::While(_)
+            | Expr::Do(_, _)
+            | Expr::Loop(_)
+            | Expr::For { .. }
+            | Expr::Break(_)
+            | Expr::Continue
+            | Expr::Return(_)
+            | Expr::Throw(_, _)
+            | Expr::Try { .. } => {
+                let top = self.top;
+                let slot = self.operand(expr, true, levels, parts)?;
+                self.give(slot)?;
+                self.top = top;
+                Ok(())
+            }
+        }
+    }
+
+    #[cycle(tail)]
+    fn tail_arms<P>(
+        &mut self,
+        arms: &Vec<Arm>,
+        otherwise: &Option<Block>,
+        levels: u32,
+        parts: &P,
+    ) -> Result<(), CodeError>
+    where
+        P: Fn(&mut Compiler, &Expr, Option<Slot>, u32) -> Result<(), CodeError>,
+        requires { P.IsAlwaysCallable parts.now }
+    {
+        for arm in arms {
+            let mut skips = Vec::new(self.alloc);
+            self.condition(
+                &arm.condition,
+                false,
+                arm.position,
+                &mut skips,
+                levels,
+                parts,
+            )?;
+            self.tail_block(&arm.body, levels, parts)?;
+            self.land(skips.as_slice())?;
+        }
+        match otherwise {
+            Some(block) => self.tail_block(block, levels, parts),
+            None => self.give_unit(),
+        }
     }
 }

@@ -20,15 +20,19 @@ impl<'p> Compiler<'p> {
         Ok(())
     }
 
-    #[cycle(compile)]
-    pub(crate) fn array(
+    pub(crate) fn array<P>(
         &mut self,
         items: &Vec<Expr>,
         to: Slot,
         levels: u32,
-    ) -> Result<(), CodeError> {
+        parts: &P,
+    ) -> Result<(), CodeError>
+    where
+        P: Fn(&mut Compiler, &Expr, Option<Slot>, u32) -> Result<(), CodeError>,
+        requires { P.IsAlwaysCallable parts.now }
+    {
         if items.len() <= ITEMS_AT_ONCE {
-            let first = self.values(items, levels)?;
+            let first = self.values(items, levels, parts)?;
             self.emit(Op::Array(to, first, to_slot(items.len())?))?;
             return Ok(());
         }
@@ -37,7 +41,7 @@ impl<'p> Compiler<'p> {
         let first = self.top;
         for (number, item) in items.iter().enumerate() {
             let slot = self.take_slot()?;
-            self.value(item, slot, levels)?;
+            parts(self, item, Some(slot), levels)?;
             let count = usize::from(self.top).saturating_sub(usize::from(first));
             if count >= ITEMS_AT_ONCE || number.saturating_add(1) == items.len() {
                 self.emit(Op::ArrayMore(made, first, to_slot(count)?))?;
@@ -59,13 +63,17 @@ impl<'p> Compiler<'p> {
         Ok(number)
     }
 
-    #[cycle(compile)]
-    pub(crate) fn object(
+    pub(crate) fn object<P>(
         &mut self,
         fields: &Vec<Field>,
         to: Slot,
         levels: u32,
-    ) -> Result<(), CodeError> {
+        parts: &P,
+    ) -> Result<(), CodeError>
+    where
+        P: Fn(&mut Compiler, &Expr, Option<Slot>, u32) -> Result<(), CodeError>,
+        requires { P.IsAlwaysCallable parts.now }
+    {
         let made = if fields.len() <= ITEMS_AT_ONCE {
             to
         } else {
@@ -75,7 +83,7 @@ impl<'p> Compiler<'p> {
         let mut begun = 0usize;
         for (number, field) in fields.iter().enumerate() {
             let slot = self.take_slot()?;
-            self.value(&field.value, slot, levels)?;
+            parts(self, &field.value, Some(slot), levels)?;
             let next = number.saturating_add(1);
             if next == fields.len() || next.saturating_sub(begun) >= ITEMS_AT_ONCE {
                 self.some_fields(fields, begun, next, made, first)?;

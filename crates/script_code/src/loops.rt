@@ -54,38 +54,53 @@ impl<'p> Compiler<'p> {
         self.clear_variables(first_slot, end, to)
     }
 
-    #[cycle(compile)]
-    pub(crate) fn while_loop(
+    pub(crate) fn while_loop<P>(
         &mut self,
         arm: &Arm,
         to: Option<Slot>,
         levels: u32,
-    ) -> Result<(), CodeError> {
+        parts: &P,
+    ) -> Result<(), CodeError>
+    where
+        P: Fn(&mut Compiler, &Expr, Option<Slot>, u32) -> Result<(), CodeError>,
+        requires { P.IsAlwaysCallable parts.now }
+    {
         let start = self.emit(Op::Jump(0))?;
         let body = self.here()?;
         self.begin_round(to)?;
-        self.statements(&arm.body, None, levels)?;
+        self.statements(&arm.body, None, levels, parts)?;
         let test = self.here()?;
         self.land_continues(test);
         self.set_target(start, test);
-        self.test(arm, true, body, levels)?;
+        self.test(arm, true, body, levels, parts)?;
         self.end_round(arm.body.first_slot)
     }
 
     /// Jumps back to the body if a condition has this value. A `break` or `continue` in the
     /// condition doesn't belong to the loop.
-    #[cycle(compile)]
-    fn test(
+    fn test<P>(
         &mut self,
         arm: &Arm,
         wanted: bool,
         body: Target,
         levels: u32,
-    ) -> Result<(), CodeError> {
+        parts: &P,
+    ) -> Result<(), CodeError>
+    where
+        P: Fn(&mut Compiler, &Expr, Option<Slot>, u32) -> Result<(), CodeError>,
+        requires { P.IsAlwaysCallable parts.now }
+    {
         let own = self.rounds.pop();
         self.position = arm.position;
         let mut back = Vec::new(self.alloc);
-        self.condition(&arm.condition, wanted, arm.position, &mut back, levels)?;
+        self.condition(
+            &arm.condition,
+            wanted,
+            arm.position,
+            &mut back,
+            levels,
+            parts,
+        )?;
         self.set_targets(back.as_slice(), body);
         if let Some(own) = own {
             self.rounds.push(own)?;
@@ -93,33 +108,41 @@ impl<'p> Compiler<'p> {
         Ok(())
     }
 
-    #[cycle(compile)]
-    pub(crate) fn do_loop(
+    pub(crate) fn do_loop<P>(
         &mut self,
         arm: &Arm,
         goes_on: bool,
         to: Option<Slot>,
         levels: u32,
-    ) -> Result<(), CodeError> {
+        parts: &P,
+    ) -> Result<(), CodeError>
+    where
+        P: Fn(&mut Compiler, &Expr, Option<Slot>, u32) -> Result<(), CodeError>,
+        requires { P.IsAlwaysCallable parts.now }
+    {
         let body = self.here()?;
         self.begin_round(to)?;
-        self.statements(&arm.body, None, levels)?;
+        self.statements(&arm.body, None, levels, parts)?;
         let test = self.here()?;
         self.land_continues(test);
-        self.test(arm, goes_on, body, levels)?;
+        self.test(arm, goes_on, body, levels, parts)?;
         self.end_round(arm.body.first_slot)
     }
 
-    #[cycle(compile)]
-    pub(crate) fn endless_loop(
+    pub(crate) fn endless_loop<P>(
         &mut self,
         block: &Block,
         to: Option<Slot>,
         levels: u32,
-    ) -> Result<(), CodeError> {
+        parts: &P,
+    ) -> Result<(), CodeError>
+    where
+        P: Fn(&mut Compiler, &Expr, Option<Slot>, u32) -> Result<(), CodeError>,
+        requires { P.IsAlwaysCallable parts.now }
+    {
         let body = self.here()?;
         self.begin_round(to)?;
-        self.statements(block, None, levels)?;
+        self.statements(block, None, levels, parts)?;
         self.land_continues(body);
         self.emit(Op::Jump(body))?;
         let Some(round) = self.rounds.pop() else {
@@ -132,8 +155,7 @@ impl<'p> Compiler<'p> {
 
 /// Loops over items.
 impl<'p> Compiler<'p> {
-    #[cycle(compile)]
-    pub(crate) fn for_loop(
+    pub(crate) fn for_loop<P>(
         &mut self,
         item: usize,
         index: Option<usize>,
@@ -143,10 +165,15 @@ impl<'p> Compiler<'p> {
         body: &Block,
         to: Option<Slot>,
         levels: u32,
-    ) -> Result<(), CodeError> {
+        parts: &P,
+    ) -> Result<(), CodeError>
+    where
+        P: Fn(&mut Compiler, &Expr, Option<Slot>, u32) -> Result<(), CodeError>,
+        requires { P.IsAlwaysCallable parts.now }
+    {
         let top = self.top;
         let at = self.take_slots(2)?;
-        self.source(source, at, position, index.is_none(), levels)?;
+        self.source(source, at, position, index.is_none(), levels, parts)?;
         self.fresh_variables(item, index)?;
         let start = self.emit(Op::Jump(0))?;
         let inside = self.here()?;
@@ -154,7 +181,7 @@ impl<'p> Compiler<'p> {
         let given = self.give_round(item, index, at, position)?;
         let outer = self.in_sight.len();
         self.show_round(names, item, index)?;
-        self.statements(body, None, levels)?;
+        self.statements(body, None, levels, parts)?;
         self.hide_variables(outer)?;
         let test = self.here()?;
         self.land_continues(test);
@@ -167,15 +194,19 @@ impl<'p> Compiler<'p> {
     }
 
     /// Compiles the value that a `for` iterates over; for a literal range, its two ends.
-    #[cycle(compile)]
-    fn source(
+    fn source<P>(
         &mut self,
         source: &Expr,
         at: Slot,
         position: Position,
         may_count: bool,
         levels: u32,
-    ) -> Result<(), CodeError> {
+        parts: &P,
+    ) -> Result<(), CodeError>
+    where
+        P: Fn(&mut Compiler, &Expr, Option<Slot>, u32) -> Result<(), CodeError>,
+        requires { P.IsAlwaysCallable parts.now }
+    {
         let mut is_range = false;
         if let (Expr::Run { first, rest }, true) = (source, may_count) {
             if let [term] = rest.as_slice() {
@@ -183,8 +214,8 @@ impl<'p> Compiler<'p> {
                     op @ (Token::ExclusiveRange | Token::InclusiveRange),
                 ) = term.operator
                 {
-                    self.value(first, at, levels)?;
-                    self.value(&term.operand, at.saturating_add(1), levels)?;
+                    parts(self, first, Some(at), levels)?;
+                    parts(self, &term.operand, Some(at.saturating_add(1)), levels)?;
                     let place = Place {
                         position: term.position,
                         token: op,
@@ -196,7 +227,7 @@ impl<'p> Compiler<'p> {
             }
         }
         if !is_range {
-            self.value(source, at, levels)?;
+            parts(self, source, Some(at), levels)?;
         }
         let place = Place {
             position,

@@ -78,24 +78,28 @@ fn have_guard(cases: &[Case]) -> bool {
 
 impl<'p> Compiler<'p> {
     /// Compiles a `switch`: runs the selected case, if there is one.
-    #[cycle(compile)]
-    pub(crate) fn switch(
+    pub(crate) fn switch<P>(
         &mut self,
         switch: &Switch,
         to: Option<Slot>,
         levels: u32,
-    ) -> Result<(), CodeError> {
-        let tested = self.tested(switch, levels)?;
+        parts: &P,
+    ) -> Result<(), CodeError>
+    where
+        P: Fn(&mut Compiler, &Expr, Option<Slot>, u32) -> Result<(), CodeError>,
+        requires { P.IsAlwaysCallable parts.now }
+    {
+        let tested = self.tested(switch, levels, parts)?;
         let mut bodies = Vec::new(self.alloc);
         for case in switch.cases.iter() {
-            bodies.push(self.test_literals(case, tested, levels)?)?;
+            bodies.push(self.test_literals(case, tested, levels, parts)?)?;
         }
         if let Some(is_met) = tested.is_met {
             let mut misses = Vec::new(self.alloc);
             misses.push(self.emit_at(Op::JumpIf(is_met, 0), tested.position)?)?;
             misses.push(self.unless_type("i64", tested)?)?;
             for (number, case) in switch.cases.iter().enumerate() {
-                let jumps = self.test_ranges(case, tested, levels)?;
+                let jumps = self.test_ranges(case, tested, levels, parts)?;
                 if let Some(body) = bodies.get_mut(number) {
                     for jump in jumps {
                         body.push(jump)?;
@@ -104,22 +108,26 @@ impl<'p> Compiler<'p> {
             }
             self.land(misses.as_slice())?;
         }
-        self.do_cases(switch, bodies, to, levels)
+        self.do_cases(switch, bodies, to, levels, parts)
     }
 
     /// Compiles the code of the cases, after the tests: if no case matches, execution falls through
     /// to the default.
-    #[cycle(compile)]
-    fn do_cases(
+    fn do_cases<P>(
         &mut self,
         switch: &Switch,
         bodies: Vec<Vec<usize>>,
         to: Option<Slot>,
         levels: u32,
-    ) -> Result<(), CodeError> {
+        parts: &P,
+    ) -> Result<(), CodeError>
+    where
+        P: Fn(&mut Compiler, &Expr, Option<Slot>, u32) -> Result<(), CodeError>,
+        requires { P.IsAlwaysCallable parts.now }
+    {
         let mut ends = Vec::new(self.alloc);
         match (&switch.otherwise, to) {
-            (Some(block), to) => self.block(block, to, levels)?,
+            (Some(block), to) => self.block(block, to, levels, parts)?,
             (None, Some(to)) => {
                 self.emit(Op::Unit(to))?;
             }
@@ -128,17 +136,20 @@ impl<'p> Compiler<'p> {
         ends.push(self.emit(Op::Jump(0))?)?;
         for (case, body) in switch.cases.iter().zip(bodies) {
             self.land(body.as_slice())?;
-            self.block(&case.body, to, levels)?;
+            self.block(&case.body, to, levels, parts)?;
             ends.push(self.emit(Op::Jump(0))?)?;
         }
         self.land(ends.as_slice())
     }
 
     /// Compiles the value, and the other operands of the tests.
-    #[cycle(compile)]
-    fn tested(&mut self, switch: &Switch, levels: u32) -> Result<Tested, CodeError> {
+    fn tested<P>(&mut self, switch: &Switch, levels: u32, parts: &P) -> Result<Tested, CodeError>
+    where
+        P: Fn(&mut Compiler, &Expr, Option<Slot>, u32) -> Result<(), CodeError>,
+        requires { P.IsAlwaysCallable parts.now }
+    {
         let cases = switch.cases.as_slice();
-        let value = self.operand(&switch.value, !have_guard(cases), levels)?;
+        let value = self.operand(&switch.value, !have_guard(cases), levels, parts)?;
         let kind = self.take_slot()?;
         if ask_type(cases) {
             let number = to_number(switch.type_of)?;
@@ -160,30 +171,38 @@ impl<'p> Compiler<'p> {
     }
 
     /// Compiles the tests of a case's literals, and returns the jumps to its code.
-    #[cycle(compile)]
-    fn test_literals(
+    fn test_literals<P>(
         &mut self,
         case: &Case,
         tested: Tested,
         levels: u32,
-    ) -> Result<Vec<usize>, CodeError> {
+        parts: &P,
+    ) -> Result<Vec<usize>, CodeError>
+    where
+        P: Fn(&mut Compiler, &Expr, Option<Slot>, u32) -> Result<(), CodeError>,
+        requires { P.IsAlwaysCallable parts.now }
+    {
         let mut hits = Vec::new(self.alloc);
         for pattern in case.patterns.iter() {
             if let Pattern::Literal(literal) = pattern {
-                self.test_literal(literal, tested, &mut hits, levels)?;
+                self.test_literal(literal, tested, &mut hits, levels, parts)?;
             }
         }
-        self.guarded(case, hits, tested.is_met, levels)
+        self.guarded(case, hits, tested.is_met, levels, parts)
     }
 
     /// Compiles the tests of a case's ranges, and returns the jumps to its code.
-    #[cycle(compile)]
-    fn test_ranges(
+    fn test_ranges<P>(
         &mut self,
         case: &Case,
         tested: Tested,
         levels: u32,
-    ) -> Result<Vec<usize>, CodeError> {
+        parts: &P,
+    ) -> Result<Vec<usize>, CodeError>
+    where
+        P: Fn(&mut Compiler, &Expr, Option<Slot>, u32) -> Result<(), CodeError>,
+        requires { P.IsAlwaysCallable parts.now }
+    {
         let mut hits = Vec::new(self.alloc);
         for pattern in case.patterns.iter() {
             if let Pattern::Range {
@@ -195,18 +214,22 @@ impl<'p> Compiler<'p> {
                 self.test_range(*first, *last, *is_inclusive, tested, &mut hits)?;
             }
         }
-        self.guarded(case, hits, None, levels)
+        self.guarded(case, hits, None, levels, parts)
     }
 
     /// Compiles the guard of a matching case, and returns the jumps to its code.
-    #[cycle(compile)]
-    fn guarded(
+    fn guarded<P>(
         &mut self,
         case: &Case,
         hits: Vec<usize>,
         is_met: Option<Slot>,
         levels: u32,
-    ) -> Result<Vec<usize>, CodeError> {
+        parts: &P,
+    ) -> Result<Vec<usize>, CodeError>
+    where
+        P: Fn(&mut Compiler, &Expr, Option<Slot>, u32) -> Result<(), CodeError>,
+        requires { P.IsAlwaysCallable parts.now }
+    {
         let Some(guard) = &case.guard else {
             return Ok(hits);
         };
@@ -219,20 +242,24 @@ impl<'p> Compiler<'p> {
         if let Some(is_met) = is_met {
             self.emit(Op::Bool(is_met, true))?;
         }
-        self.condition(guard, true, case.guard_position, &mut jumps, levels)?;
+        self.condition(guard, true, case.guard_position, &mut jumps, levels, parts)?;
         self.land(&[skip])?;
         Ok(jumps)
     }
 
     /// Jumps if the value equals a literal.
-    #[cycle(compile)]
-    fn test_literal(
+    fn test_literal<P>(
         &mut self,
         literal: &Expr,
         tested: Tested,
         hits: &mut Vec<usize>,
         levels: u32,
-    ) -> Result<(), CodeError> {
+        parts: &P,
+    ) -> Result<(), CodeError>
+    where
+        P: Fn(&mut Compiler, &Expr, Option<Slot>, u32) -> Result<(), CodeError>,
+        requires { P.IsAlwaysCallable parts.now }
+    {
         let top = self.top;
         if let Some(int) = small_int(literal) {
             let place = self.compared(Token::EqualsTo, tested);
@@ -243,7 +270,7 @@ impl<'p> Compiler<'p> {
         if let Some(name) = asked_type(literal) {
             misses.push(self.unless_type(name, tested)?)?;
         }
-        let slot = self.operand(literal, true, levels)?;
+        let slot = self.operand(literal, true, levels, parts)?;
         let place = self.compared(Token::EqualsTo, tested);
         hits.push(self.emit_with(Op::JumpEqual(tested.value, slot, 0), place)?)?;
         self.top = top;

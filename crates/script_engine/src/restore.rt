@@ -1,4 +1,4 @@
-//! Variables out of a snapshot.
+//! Reads the variables of a snapshot.
 
 use crate::engine::Engine;
 use crate::flat::{Bytes, Cells, Unread, read_next};
@@ -7,7 +7,7 @@ use rhai_value::Roots;
 use script_run::Scope;
 use std::alloc::Global;
 
-/// Reads variables, each behind a byte that says that there is one more.
+/// Reads variables; a byte before each says that one follows.
 fn read_variables(
     alloc: Global,
     bytes: &mut Bytes,
@@ -62,11 +62,11 @@ fn read_scope(alloc: Global, bytes: &[u8]) -> Result<Scope, Unread> {
     }
 }
 
-/// What is read of snapshots.
+/// Reading snapshots.
 impl Engine {
-    /// Makes the variables those of a snapshot of variables alone, with all that these share. A run that stands ends. The functions that the host kept are
-    /// gone.
-    /// Errors: the bytes are no such snapshot, or memory is refused; the variables stay.
+    /// Replaces the variables by those of a snapshot without active functions, with the cells that
+    /// they share. Ends the run, if there is one, and drops the functions that the host kept.
+    /// Errors: the bytes are no such snapshot, or an allocation fails; the variables are unchanged.
     /// Cost: the number of bytes; memory for the values.
     pub fn restore(&mut self, bytes: &[u8]) -> Result<(), Unread> {
         let scope = read_scope(self.alloc, bytes)?;

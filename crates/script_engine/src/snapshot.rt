@@ -1,5 +1,5 @@
-//! Snapshots: variables as bytes, with all that they share. Cells have numbers in the order in which they are first reached, so that equal
-//! scopes have equal bytes, wherever their cells stand.
+//! Snapshots: variables as bytes, with all that they share. Cells are numbered in the order in
+//! which they are first reached, so equal scopes have equal bytes, whatever the order of cells.
 
 use crate::engine::Engine;
 use rhai_show::hashed;
@@ -15,13 +15,13 @@ pub(crate) const CELL: u8 = 10;
 /// The kind of a cell that can't be looked into.
 pub(crate) const CLOSED: u8 = 11;
 
-/// What stands before a value with a tag, or that is constant.
+/// Precedes a value that has a tag or is constant.
 pub(crate) const LABEL: u8 = 12;
 
-/// What stands before a function and before a variable.
+/// Precedes a function, and a variable.
 pub(crate) const MORE: u8 = 1;
 
-/// What stands behind the last one.
+/// Follows the last one.
 pub(crate) const END: u8 = 0;
 
 /// The cells that were reached, in their order.
@@ -87,7 +87,7 @@ impl<'s> Cells<'s> {
         }
     }
 
-    /// The number of a holder's cell, which it gets where it has none; `None` where the cell can't be looked into.
+    /// The number of a holder's cell, which it gets if it has none; `None` for an unreadable cell.
     fn number(
         &mut self,
         alloc: Global,
@@ -157,7 +157,7 @@ fn add_text(out: &mut Vec<u8>, text: &str) -> Result<(), AllocError> {
     out.extend_from_slice(text.as_bytes())
 }
 
-/// Adds the tag and the mode of a value, where it has some that are to be told.
+/// Adds the tag and the mode of a value, unless they are those of a new value.
 fn add_label(out: &mut Vec<u8>, value: &Dynamic) -> Result<(), AllocError> {
     let tag: Tag = value.tag();
     let mode = match value.access_mode() {
@@ -172,7 +172,7 @@ fn add_label(out: &mut Vec<u8>, value: &Dynamic) -> Result<(), AllocError> {
     out.extend_from_slice(&tag.to_le_bytes())
 }
 
-/// Adds a value that holds no others, or else what stands before these.
+/// Adds a value that contains no others, or else the head of one that does.
 fn opened<'s>(
     alloc: Global,
     out: &mut Vec<u8>,
@@ -226,7 +226,7 @@ fn opened<'s>(
     }
 }
 
-/// Adds a value. What is left of each level stands in a list, so that no nesting takes stack.
+/// Adds a value. A work list has what is left of each level, so nesting takes no stack.
 fn add_value<'s>(
     alloc: Global,
     out: &mut Vec<u8>,
@@ -280,7 +280,7 @@ fn add_contents<'s>(
     Ok(())
 }
 
-/// Adds a function under way, with its variables in sight.
+/// Adds an active function, with its visible variables.
 fn add_function<'s>(
     alloc: Global,
     out: &mut Vec<u8>,
@@ -333,7 +333,8 @@ fn add_variables<'s>(
     Ok(())
 }
 
-/// A snapshot that is being written: first the values that the host adds, then what each cell holds.
+/// A snapshot that is being written: first the values that the host adds, then the content of each
+/// cell.
 /// `Engine::snapshot` describes the bytes of values.
 #[derive(Drop)]
 pub struct Snapshot<'s> {
@@ -344,7 +345,7 @@ pub struct Snapshot<'s> {
 }
 
 impl<'s> Snapshot<'s> {
-    /// Starts a snapshot of values whose cells are in this store, with a byte that says its kind: 0
+    /// Starts a snapshot of values whose cells are in this store. The first byte says the kind: 0
     /// and 1 are those of `Engine::snapshot`.
     /// Errors: an allocation fails.
     pub fn new(alloc: Global, store: &'s Store, kind: u8) -> Result<Snapshot<'s>, AllocError> {
@@ -406,17 +407,21 @@ impl<'s> Snapshot<'s> {
     }
 }
 
-/// Snapshots of what an engine has.
+/// Snapshots of an engine's values.
 impl Engine {
-    /// Takes a snapshot: of the functions under way, the innermost first, each with its variables in sight, from the newest to the oldest; or,
-    /// while no run stands, of the variables alone, from the oldest to the newest, which `restore` reads.
+    /// Takes a snapshot: during a run, of the active functions, the innermost first, each with its
+    /// visible variables, from the newest to the oldest; otherwise of the variables alone, from the
+    /// oldest to the newest, which `restore` reads.
     ///
-    /// The bytes: 0, and then the variables; or 1, and then the functions, each its name, line and column (eight bytes each) and its variables. Of a variable
-    /// they have its name and its value. Before each of these stands 1, and 0 behind the last one. At the end stands what each cell holds, by
-    /// its number. Values have their hash bytes; a cell is 10 and its number, and 11 one that can't be looked into; before a value that is constant or has a
-    /// tag stand 12, then 1 or 0 for a constant or none, and the tag in four bytes.
-    /// Errors: memory is refused.
-    /// Cost: the number of values, and for each holder the square of the logarithm of the number of cells; memory for the bytes and for each cell.
+    /// The bytes: 0 and the variables; or 1 and the functions, each with its name, line and column
+    /// (eight bytes each) and its variables. A variable has its name and its value. A byte 1
+    /// precedes each of these, and 0 follows the last one. At the end is the content of each cell,
+    /// in the order of their numbers. Values have their hash bytes; a cell is 10 and its number,
+    /// and 11 a cell that can't be read. A value that is constant or has a tag is preceded by 12,
+    /// then 1 for a constant or 0, and the tag in four bytes.
+    /// Errors: an allocation fails.
+    /// Cost: the number of values, and for each holder the square of the logarithm of the number
+    /// of cells; memory for the bytes and for each cell.
     pub fn snapshot(&self) -> Result<Vec<u8>, AllocError> {
         let alloc = self.alloc;
         let mut out = Vec::new(alloc);

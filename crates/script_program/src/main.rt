@@ -1,8 +1,8 @@
 //! Runs a script from standard input: writes what it prints, and on standard error the error that
 //! ended it, if one did. With the argument `many` it runs the scripts between lines of `----`, and
 //! writes a line for each that says how it ended. `--operations N` limits the operations of a
-//! script. The exit status is 0; 1 if the script failed; 2 if it can't be read, or the arguments
-//! are invalid.
+//! script, and `--memory BYTES` what it may hold. The exit status is 0; 1 if the script failed; 2
+//! if it can't be read, or the arguments are invalid.
 #![tactic(auto)]
 
 mod many;
@@ -21,7 +21,7 @@ const FAILED: u8 = 1;
 /// The script can't be read, or the arguments are invalid.
 const UNREAD: u8 = 2;
 
-/// What a script may use here, unless an argument sets the number of operations.
+/// What a script may use here, unless arguments say otherwise.
 const LIMITS: ScriptLimits = ScriptLimits {
     sizes: Limits {
         text: 1_000_000,
@@ -29,6 +29,7 @@ const LIMITS: ScriptLimits = ScriptLimits {
     },
     entries: 1_000_000,
     output: 100_000_000,
+    memory: 0,
     operations: 100_000_000,
     calls: 500,
 };
@@ -39,35 +40,56 @@ struct Task {
     is_many: bool,
     /// How many operations a script may take, if an argument says so.
     operations: Option<u64>,
+    /// How many bytes it may hold, if an argument says so.
+    memory: Option<u64>,
+}
+
+/// The argument that a number belongs to.
+#[derive(Clone, Copy, PartialEq, Eq)]
+enum Budget {
+    Operations,
+    Memory,
+}
+
+/// Returns the budget that an argument names.
+fn budget_of(word: &str) -> Option<Budget> {
+    match word {
+        "--operations" => Some(Budget::Operations),
+        "--memory" => Some(Budget::Memory),
+        _ => None,
+    }
 }
 
 /// Reads what the arguments request, if they are valid.
 fn task_of(rt: &(impl Env + AllocGlobal)) -> io::Result<Option<Task>> {
-    let mut is_many = false;
-    let mut operations = None;
-    let mut is_count = false;
+    let mut task = Task {
+        is_many: false,
+        operations: None,
+        memory: None,
+    };
+    let mut budget = None;
     for word in env::args(rt)?.skip(1) {
-        if is_count {
+        if let Some(named) = budget {
             let Ok(count) = word.as_str().parse::<u64>() else {
                 return Ok(None);
             };
-            operations = Some(count);
-            is_count = false;
-        } else if word.as_str() == "--operations" {
-            is_count = true;
+            match named {
+                Budget::Operations => task.operations = Some(count),
+                Budget::Memory => task.memory = Some(count),
+            }
+            budget = None;
+        } else if let Some(named) = budget_of(word.as_str()) {
+            budget = Some(named);
         } else if word.as_str() == "many" {
-            is_many = true;
+            task.is_many = true;
         } else {
             return Ok(None);
         }
     }
-    if is_count {
+    if budget.is_some() {
         return Ok(None);
     }
-    Ok(Some(Task {
-        is_many,
-        operations,
-    }))
+    Ok(Some(task))
 }
 
 /// The exit status for an error.
@@ -79,16 +101,13 @@ fn status_of(error: &ScriptError) -> u8 {
 }
 
 /// Runs a script, and returns the exit status.
-fn run_one(
-    rt: &(impl Print + Eprint + AllocGlobal),
-    text: &str,
-    operations: Option<u64>,
-) -> io::Result<u8> {
+fn run_one(rt: &(impl Print + Eprint + AllocGlobal), text: &str, task: Task) -> io::Result<u8> {
     let limits = ScriptLimits {
         sizes: LIMITS.sizes,
         entries: LIMITS.entries,
         output: LIMITS.output,
-        operations: operations.unwrap_or(LIMITS.operations),
+        memory: task.memory.unwrap_or(LIMITS.memory),
+        operations: task.operations.unwrap_or(LIMITS.operations),
         calls: LIMITS.calls,
     };
     let mut out = String::new(rt.alloc());
@@ -104,7 +123,7 @@ fn run_one(
     }
 }
 
-/// Writes why a script ended, and the calls under way, if it called functions.
+/// Writes why a script ended, and the active calls, if it called functions.
 fn tell(rt: &(impl Eprint + AllocGlobal), error: &ScriptError) -> io::Result<()> {
     eprintln!(rt; "error: {error}")?;
     if let ScriptError::Fault(_, _, calls) = error {
@@ -120,7 +139,7 @@ fn tell(rt: &(impl Eprint + AllocGlobal), error: &ScriptError) -> io::Result<()>
 /// Does what the arguments ask for, and gives the exit status.
 fn run(rt: &(impl Input + Print + Eprint + Env + AllocGlobal)) -> io::Result<u8> {
     let Some(task) = task_of(rt)? else {
-        eprintln!(rt; "usage: script_program [--operations N] [many]")?;
+        eprintln!(rt; "usage: script_program [--operations N] [--memory BYTES] [many]")?;
         return Ok(UNREAD);
     };
     let text = match io::read_to_string(rt.alloc(), rt.reader()) {
@@ -131,10 +150,10 @@ fn run(rt: &(impl Input + Print + Eprint + Env + AllocGlobal)) -> io::Result<u8>
         }
     };
     if task.is_many {
-        run_many(rt, text.as_str(), task.operations)?;
+        run_many(rt, text.as_str(), task.operations, task.memory)?;
         return Ok(0);
     }
-    run_one(rt, text.as_str(), task.operations)
+    run_one(rt, text.as_str(), task)
 }
 
 fn main(rt: HostRuntime) -> ExitCode {

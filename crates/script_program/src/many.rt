@@ -7,7 +7,7 @@ use std::io;
 /// The line between two scripts.
 const BETWEEN: &str = "\n----\n";
 
-/// What each script may use, unless an argument sets the number of operations.
+/// What each script may use, unless arguments set the operations and the bytes.
 const LIMITS: ScriptLimits = ScriptLimits {
     sizes: Limits {
         text: 10_000,
@@ -15,6 +15,7 @@ const LIMITS: ScriptLimits = ScriptLimits {
     },
     entries: 10_000,
     output: 1_000_000,
+    memory: 0,
     operations: 20_000,
     calls: 200,
 };
@@ -36,11 +37,13 @@ pub(crate) fn run_many(
     rt: &(impl Print + AllocGlobal),
     text: &str,
     operations: Option<u64>,
+    memory: Option<u64>,
 ) -> io::Result<()> {
     let limits = ScriptLimits {
         sizes: LIMITS.sizes,
         entries: LIMITS.entries,
         output: LIMITS.output,
+        memory: memory.unwrap_or(LIMITS.memory),
         operations: operations.unwrap_or(LIMITS.operations),
         calls: LIMITS.calls,
     };

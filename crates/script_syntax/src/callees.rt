@@ -1,4 +1,4 @@
-// The names in calls, and the functions with these names.
+//! The names in calls, and the functions with these names.
 
 use rhai_text::ImmutableString;
 use script_tree::Callee;

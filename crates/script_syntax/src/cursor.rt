@@ -1,4 +1,5 @@
-// A position in a text, which moves on a character at a time.
+//! A position in a text, which moves on a character at a time.
+
 ghost use Rattle.std.specs.Prelude.{◌≡◌, ◌≤◌, length};
 
 use rhai_text::Position;

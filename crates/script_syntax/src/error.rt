@@ -1,6 +1,7 @@
-// What is wrong with a text.
+//! What is wrong with a text.
 
-use crate::symbol::Symbol;
+use crate::symbol::{ReservedSign, Symbol};
+use crate::words::ReservedWord;
 use rhai_text::Position;
 use std::alloc::{AllocError, AllocFailed};
 use std::fmt;
@@ -32,13 +33,13 @@ pub enum SyntaxFault {
     ExpectedKey,
     /// The word is reserved: the language uses it, or rhai does.
     #[error("`{0}` is a reserved word, and no name")]
-    ReservedWord(&'static str),
+    ReservedWord(ReservedWord),
     /// The word begins something that rhai has and this language doesn't.
     #[error("`{0}` is not part of this language")]
-    NotRead(&'static str),
+    NotRead(ReservedWord),
     /// The sign has no meaning here, but has one in rhai.
-    #[error("`{0}{1}` is not part of this language")]
-    ReservedSign(char, &'static str),
+    #[error("`{0}` is not part of this language")]
+    ReservedSign(ReservedSign),
     /// No sign begins with this character.
     #[error("this character begins nothing")]
     StrangeCharacter,

@@ -1,9 +1,9 @@
-// The lexemes of a script.
+//! The lexemes of a script.
 
 use crate::cursor::Cursor;
 use crate::error::{SyntaxError, SyntaxFault};
 use crate::literals::{quoted, raw_text, read_char, read_int, template};
-use crate::symbol::{SIGNS, Symbol, keyword};
+use crate::symbol::{ReservedSign, SIGNS, Symbol, keyword};
 use rhai_text::Position;
 use rhai_value::INT;
 use std::alloc::Global;
@@ -123,10 +123,10 @@ fn read_sign(cursor: &mut Cursor, next: char) -> Result<Lexeme, SyntaxError> {
         cursor.advance_by(3);
         return Ok(Lexeme::Symbol(Symbol::NotIn));
     }
-    for (first, rest, symbol) in SIGNS.iter() {
+    for (number, (first, rest, symbol)) in SIGNS.iter().enumerate() {
         if *first == next && cursor.comes_behind(rest) {
             let Some(symbol) = symbol else {
-                let fault = SyntaxFault::ReservedSign(*first, rest);
+                let fault = SyntaxFault::ReservedSign(ReservedSign::new(number));
                 return Err(SyntaxError::Fault(fault, cursor.position()));
             };
             cursor.advance();

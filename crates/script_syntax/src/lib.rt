@@ -15,4 +15,5 @@ mod words;
 
 pub use error::{SyntaxError, SyntaxFault};
 pub use parser::{parse, parse_with};
-pub use symbol::Symbol;
+pub use symbol::{ReservedSign, Symbol};
+pub use words::ReservedWord;

@@ -1,4 +1,5 @@
-// Literals of ints, characters and texts.
+//! Literals of ints, characters and texts.
+
 ghost use Rattle.std.specs.Prelude.{◌≤◌};
 
 use crate::cursor::Cursor;
@@ -92,7 +93,7 @@ pub fn read_char(alloc: Global, cursor: &mut Cursor) -> Result<char, SyntaxError
     }
 }
 
-/// Reads a text between these quotation marks; two of them in a row stand for one. After a
+/// Reads a text between these quotation marks; two of them in a row are one. After a
 /// backslash at the end of a line the text continues on the next line, without the blanks up to the
 /// column of the mark.
 /// Errors: what is wrong with it, and where; `OutOfMemory`.
@@ -188,7 +189,7 @@ pub fn template(alloc: Global, cursor: &mut Cursor) -> Result<Lexeme, SyntaxErro
 }
 
 /// Continues a text in back-ticks that began at this position, up to its end or to a `${`. Two
-/// back-ticks in a row stand for one.
+/// back-ticks in a row are one.
 /// Errors: `OpenText`, at its beginning; `OutOfMemory`.
 /// Cost: its length.
 pub fn template_part(

@@ -1,4 +1,5 @@
-// The names of variables, and their slots in the frames of functions.
+//! The names of variables, and their slots in the frames of functions.
+
 ghost use Rattle.std.specs.Prelude.{◌≡◌, ◌≤◌, IfOk, vec_len};
 
 use rhai_text::{ImmutableString, Position};

@@ -1,4 +1,4 @@
-// Binary operators, by increasing precedence, and those that assign.
+//! Binary operators, by increasing precedence, and those that assign.
 
 use crate::symbol::Symbol;
 use rhai_text::Token;

@@ -1,6 +1,8 @@
-// Parses lexemes to trees. Each function that parses a part of a tree gets the number of levels
-// that are left for it.
-ghost use Rattle.std.specs.Prelude.{◌≡◌, ◌+◌, ◌≤◌, length, IfOk};
+//! Parses lexemes to trees. Each function that parses a part of a tree gets the number of levels
+//! that are left for it, and `parts`, through which it parses statements and expressions on lower
+//! levels: so only `Parser::part` calls itself.
+
+ghost use Rattle.std.specs.Prelude.{◌≡◌, ◌≤◌, length, IfOk};
 
 use crate::callees::Callees;
 use crate::cursor::Cursor;
@@ -42,6 +44,18 @@ struct Parser {
     stamp: u64,
     /// The lowest level that the current expression has reached.
     lowest: usize,
+    /// What was wrong in the part that was parsed last, if that failed.
+    error: SyntaxError,
+}
+
+/// A part of a tree that a level below is parsed for.
+#[derive(Clone, Copy, Drop)]
+enum Part {
+    Statement,
+    /// An expression with operators of at least this precedence.
+    Expression(u8),
+    /// An operand, with its unary operators.
+    Operand,
 }
 
 /// Parses a script.
@@ -79,7 +93,12 @@ pub fn parse_with(alloc: Global, text: &str, outer: &[String]) -> Result<Program
         if parser.is_next(Symbol::Fn) {
             parser.function()?;
         } else {
-            parser.terminated_statement(MOST_LEVELS, &mut statements, &mut positions)?;
+            parser.terminated_statement(
+                MOST_LEVELS,
+                &mut statements,
+                &mut positions,
+                &|parser: &mut Parser, levels: usize, part: Part| parser.part(levels, part),
+            )?;
         }
     }
     parser.expect(Symbol::End)?;
@@ -108,6 +127,7 @@ impl Parser {
             is_function: false,
             stamp: stamp_of(text),
             lowest: MOST_LEVELS,
+            error: SyntaxError::OutOfMemory,
         })
     }
 
@@ -132,6 +152,7 @@ impl Parser {
             is_function: _,
             stamp: _,
             lowest: _,
+            error: _,
         } = self;
         let end_slot = names.count();
         let (variables, slots) = names.leave().into_names()?;
@@ -148,6 +169,46 @@ impl Parser {
             variables,
             outer,
         })
+    }
+
+    /// Parses a statement or an expression. If that fails, it notes the error and returns `None`.
+    fn part(&mut self, levels: usize, part: Part) -> Option<Expr> {
+        let parts = |parser: &mut Parser, below: usize, part: Part| {
+            if below < levels {
+                parser.part(below, part)
+            } else {
+                let error = parser.fault(SyntaxFault::TooDeep);
+                parser.noted(Err(error))
+            }
+        };
+        let parsed = match part {
+            Part::Statement => self.statement(levels, &parts),
+            Part::Expression(least) => self.expression(levels, least, &parts),
+            Part::Operand => self.unary(levels, &parts),
+        };
+        self.noted(parsed)
+    }
+
+    fn noted(&mut self, parsed: Result<Expr, SyntaxError>) -> Option<Expr> {
+        match parsed {
+            Ok(expr) => Some(expr),
+            Err(error) => {
+                self.error = error;
+                None
+            }
+        }
+    }
+
+    /// Parses a part of the current one.
+    fn inner<P>(&mut self, levels: usize, part: Part, parts: &P) -> Result<Expr, SyntaxError>
+    where
+        P: Fn(&mut Parser, usize, Part) -> Option<Expr>,
+        requires { P.IsAlwaysCallable parts.now }
+    {
+        match parts(self, levels, part) {
+            Some(expr) => Ok(expr),
+            None => Err(mem::replace(&mut self.error, SyntaxError::OutOfMemory)),
+        }
     }
 
     /// Makes the error for the next lexeme.
@@ -233,15 +294,13 @@ impl Parser {
         Ok(word)
     }
 
-    /// Copies a name for a tree.
+    /// Copies a name or a text for a tree.
     fn kept(&self, name: &str) -> Result<ImmutableString, SyntaxError> {
         Ok(ImmutableString::from_str(self.alloc, name)?)
     }
 
     /// Returns the levels that are left below one.
-    fn below(&self, levels: usize) -> Result<usize, SyntaxError>
-        ensures { IfOk result (λ below. below + 1 ≡ levels) }
-    {
+    fn below(&self, levels: usize) -> Result<usize, SyntaxError> {
         match levels.checked_sub(1) {
             Some(below) => Ok(below),
             None => Err(self.fault(SyntaxFault::TooDeep)),

@@ -1,4 +1,4 @@
-// Keywords and signs.
+//! Keywords and signs.
 
 use rhai_text::Token;
 use std::fmt;
@@ -194,6 +194,34 @@ pub static SIGNS: [(char, &str, Option<Symbol>); 73] = [
     ('`', "", None),
     ('\\', "", None),
 ];
+
+/// A sign that rhai has and this language doesn't.
+#[derive(Clone, Copy, PartialEq, Eq)]
+pub struct ReservedSign {
+    /// Its place in `SIGNS`.
+    number: usize,
+}
+
+impl ReservedSign {
+    pub(crate) fn new(number: usize) -> ReservedSign {
+        ReservedSign { number }
+    }
+}
+
+impl fmt::Debug for ReservedSign {
+    fn fmt<W: fmt::Write>(&self, f: &mut fmt::Formatter<W>) -> fmt::Result {
+        write!(f, "\"{self}\"")
+    }
+}
+
+impl fmt::Display for ReservedSign {
+    fn fmt<W: fmt::Write>(&self, f: &mut fmt::Formatter<W>) -> fmt::Result {
+        match SIGNS.get(self.number) {
+            Some((first, rest, _)) => write!(f, "{first}{rest}"),
+            None => Ok(()),
+        }
+    }
+}
 
 /// Finds the keyword that a word is.
 pub fn keyword(word: &str) -> Option<Symbol> {

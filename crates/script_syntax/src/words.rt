@@ -1,12 +1,19 @@
-// The words that rhai reserves.
+//! The words that rhai reserves.
 
 use crate::error::SyntaxFault;
+use std::fmt;
 
-/// What rhai has and this language doesn't.
-static NOT_READ: [&str; 6] = ["as", "eval", "exit", "export", "import", "private"];
+/// How many of `RESERVED`, the first, name what rhai has and this language doesn't.
+const NOT_READ: usize = 6;
 
 /// The reserved words other than keywords.
-static RESERVED: [&str; 36] = [
+static RESERVED: [&str; 42] = [
+    "as",
+    "eval",
+    "exit",
+    "export",
+    "import",
+    "private",
     "async",
     "await",
     "call",
@@ -45,6 +52,39 @@ static RESERVED: [&str; 36] = [
     "Fn",
 ];
 
+/// A word that is reserved, and no keyword.
+#[derive(Clone, Copy, PartialEq, Eq)]
+pub struct ReservedWord {
+    /// Its place in `RESERVED`.
+    number: usize,
+}
+
+impl ReservedWord {
+    fn of(word: &str) -> Option<ReservedWord> {
+        for (number, known) in RESERVED.iter().enumerate() {
+            if *known == word {
+                return Some(ReservedWord { number });
+            }
+        }
+        None
+    }
+}
+
+impl fmt::Debug for ReservedWord {
+    fn fmt<W: fmt::Write>(&self, f: &mut fmt::Formatter<W>) -> fmt::Result {
+        write!(f, "\"{self}\"")
+    }
+}
+
+impl fmt::Display for ReservedWord {
+    fn fmt<W: fmt::Write>(&self, f: &mut fmt::Formatter<W>) -> fmt::Result {
+        match RESERVED.get(self.number) {
+            Some(word) => write!(f, "{word}"),
+            None => Ok(()),
+        }
+    }
+}
+
 /// The reserved words that can be called as functions.
 static FUNCTIONS: [&str; 9] = [
     "Fn",
@@ -64,12 +104,11 @@ static METHODS: [&str; 4] = ["call", "curry", "is_shared", "type_of"];
 /// Returns what is wrong with a word as the name of a variable, a function, a parameter or a
 /// property.
 pub fn no_name(word: &str) -> Option<SyntaxFault> {
-    if let Some(known) = NOT_READ.iter().find(|known| **known == word) {
-        return Some(SyntaxFault::NotRead(*known));
-    }
-    match RESERVED.iter().find(|known| **known == word) {
-        Some(known) => Some(SyntaxFault::ReservedWord(*known)),
-        None => None,
+    let known = ReservedWord::of(word)?;
+    if known.number < NOT_READ {
+        Some(SyntaxFault::NotRead(known))
+    } else {
+        Some(SyntaxFault::ReservedWord(known))
     }
 }
 

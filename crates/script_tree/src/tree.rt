@@ -1,4 +1,4 @@
-// Scripts as trees.
+//! Scripts as trees.
 
 use rhai_text::{ImmutableString, Position, Token};
 use rhai_value::INT;

@@ -40,7 +40,7 @@ pub(crate) fn operations_of_bytes(bytes: u64) -> u64 {
     bytes / BYTES
 }
 
-/// Returns the operations for adding this many entries to maps, each with a search and an
+/// Returns the operations for adding this many entries to maps: three each, for a search and an
 /// insertion.
 pub(crate) fn entries_cost(count: usize) -> u64 {
     (count as u64).saturating_mul(3)
@@ -147,18 +147,19 @@ pub(crate) fn own_cost(value: &Dynamic) -> u64 {
 }
 
 /// Returns the weight of a walk over what is directly in a value, its parts and its bytes, as a
-/// number of values.
+/// number of values. An entry of a map weighs as two, and so does a function pointer without its
+/// curried values.
 pub(crate) fn own_weight(value: &Dynamic) -> u64 {
     match value.parts() {
         Union::Array(_, _, items) => items.len() as u64,
         Union::Map(_, _, map) => {
-            let mut weight = map.len() as u64;
+            let mut weight = (map.len() as u64).saturating_mul(2);
             for (key, _) in map {
                 weight = weight.saturating_add(weight_of_bytes(key.len()));
             }
             weight
         }
-        Union::FnPtr(_, _, function) => function.curry().len() as u64,
+        Union::FnPtr(_, _, function) => (function.curry().len() as u64).saturating_add(2),
         Union::Str(_, _, text) => weight_of_bytes(text.len()),
         Union::Blob(_, _, bytes) => weight_of_bytes(bytes.len()),
         Union::Unit(_, _, _)

@@ -50,6 +50,8 @@ pub enum FaultKind {
     TooManyEntries,
     /// The script printed more than its limit.
     TooMuchOutput,
+    /// The script holds more bytes than its limit.
+    TooMuchMemory,
     /// Calls are nested deeper than their limit.
     TooManyCalls,
 }
@@ -90,6 +92,7 @@ impl FaultKind {
             FaultKind::TooManyOperations
             | FaultKind::TooManyEntries
             | FaultKind::TooMuchOutput
+            | FaultKind::TooMuchMemory
             | FaultKind::TooManyCalls => false,
         }
     }
@@ -133,6 +136,7 @@ impl FaultKind {
             FaultKind::TooManyOperations => String::from_str(alloc, "too many operations"),
             FaultKind::TooManyEntries => String::from_str(alloc, "too large: Entries"),
             FaultKind::TooMuchOutput => String::from_str(alloc, "too much output"),
+            FaultKind::TooMuchMemory => String::from_str(alloc, "too much memory"),
             FaultKind::TooManyCalls => String::from_str(alloc, "too many calls within each other"),
         }
     }

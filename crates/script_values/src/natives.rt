@@ -16,7 +16,8 @@ use crate::text_functions::{TextFunction, ask_text, text_function};
 use crate::text_parts::change_text;
 use rhai_value::{Dynamic, Part, Store, Union};
 
-/// The functions of one name and number of arguments, one for each type of the receiver that has it.
+/// The functions with one name and number of arguments, one for each type of the receiver that has
+/// it.
 #[derive(Clone, Copy)]
 pub struct Native {
     pub array: Option<ArrayFunction>,

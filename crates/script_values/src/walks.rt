@@ -296,6 +296,7 @@ fn map_cost(
             found.saturating_add(key_cost(first, counting.store))
         }
         Some(MapFunction::Ask(MapQuestion::Keys | MapQuestion::Values)) => {
+            // (and one operation for each key)
             copy_cost(alloc, held, counting.most)?.saturating_add(map.len() as u64)
         }
         Some(MapFunction::Ask(MapQuestion::ToJson)) => {

@@ -16,6 +16,7 @@ pub(crate) const LIMITS: RunLimits = RunLimits {
     },
     entries: 100,
     output: 0,
+    memory: 0,
     operations: u64::MAX,
     calls: 20,
 };

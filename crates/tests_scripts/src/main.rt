@@ -16,6 +16,7 @@ const LIMITS: ScriptLimits = ScriptLimits {
     },
     entries: 1_000_000,
     output: 100_000_000,
+    memory: 0,
     operations: 4_000_000,
     calls: 100,
 };

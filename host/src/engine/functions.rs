@@ -30,6 +30,36 @@ impl<T: TryFrom<Value, Error: Into<TryFromValueError>>> Wanted for T {
     }
 }
 
+/// The type of a parameter of a host function: a [`Wanted`] type, or `&str`.
+pub trait Parameter {
+    /// What an argument is converted to.
+    type Held: Wanted;
+
+    /// What the function gets, while it runs.
+    type Lent<'h>;
+
+    /// Passes on what an argument was converted to; a reference is to `room`.
+    fn lend(held: Self::Held, room: &mut Option<Self::Held>) -> Self::Lent<'_>;
+}
+
+impl<T: Wanted> Parameter for T {
+    type Held = T;
+    type Lent<'h> = T;
+
+    fn lend(held: T, _room: &mut Option<T>) -> T {
+        held
+    }
+}
+
+impl Parameter for &'static str {
+    type Held = String;
+    type Lent<'h> = &'h str;
+
+    fn lend(held: String, room: &mut Option<String>) -> &str {
+        room.insert(held)
+    }
+}
+
 /// A value that is ignored, and not read.
 pub(super) struct Unread;
 
@@ -103,11 +133,11 @@ impl<K, R: Answers<K>, E: Display> Answers<Fallible<K>> for Result<R, E> {
     }
 }
 
-/// A Rust function that scripts may call. It takes up to six parameters of types that a [`Value`]
-/// converts to. It returns something that converts to a [`Value`], or a `Result` of such and an
-/// error that implements `Display`. A number that doesn't fit an int is thrown as such an error. It
-/// may take a `&mut` [`Call`] before the parameters, and the first parameter as `&mut`. `A` is the
-/// list of parameter types, and `K` separates the kinds of results.
+/// A Rust function that scripts may call. It takes up to six parameters, of types that a [`Value`]
+/// converts to or `&str`. It returns something that converts to a [`Value`], or a `Result` of such
+/// and an error that implements `Display`. A number that doesn't fit an int is thrown as such an
+/// error. It may take a `&mut` [`Call`] before the parameters, and the first parameter as `&mut`.
+/// `A` is the list of parameter types, and `K` separates the kinds of results.
 pub trait HostFn<A, K>: Send + Sync + 'static {
     /// The number of parameters.
     const PARAMETERS: usize;
@@ -138,40 +168,53 @@ fn put_back<M: TryInto<Value, Error: Display>>(call: &mut Call<'_>, changed: M) 
 }
 
 macro_rules! functions {
-    ($($count:literal: $($type:ident $number:literal),*;)*) => {
+    ($($count:literal: $($type:ident $held:ident $number:tt),*;)*) => {
         $(
-            impl<F, K, R: Answers<K>, $($type: Wanted,)*> HostFn<($($type,)*), K> for F
+            impl<F, K, R: Answers<K>, $($type: Parameter,)*> HostFn<($($type,)*), K> for F
             where
-                F: Fn($($type),*) -> R + Send + Sync + 'static,
+                F: Fn($($type),*) -> R + for<'h> Fn($($type::Lent<'h>),*) -> R + Send + Sync + 'static,
             {
                 const PARAMETERS: usize = $count;
                 const CHANGES: bool = false;
 
-                #[allow(unused_variables)]
+                #[allow(unused_mut, unused_variables)]
                 fn call(&self, call: &mut Call<'_>) -> Result<Given, Refused> {
-                    self($(call.argument::<$type>($number)?),*).given()
+                    // (of the two signatures of the function the one whose parameters are lent)
+                    #[allow(clippy::too_many_arguments)]
+                    fn called<R, $($type,)*>(function: impl Fn($($type),*) -> R, $($held: $type),*) -> R {
+                        function($($held),*)
+                    }
+                    // (what references among the parameters lead to)
+                    let mut rooms = ($(None::<$type::Held>,)*);
+                    $(let $held = $type::lend(call.argument($number)?, &mut rooms.$number);)*
+                    called(self, $($held),*).given()
                 }
             }
 
-            impl<F, K, R: Answers<K>, $($type: Wanted,)*> HostFn<WithCall<($($type,)*)>, K> for F
+            impl<F, K, R: Answers<K>, $($type: Parameter,)*> HostFn<WithCall<($($type,)*)>, K> for F
             where
-                F: Fn(&mut Call<'_>, $($type),*) -> R + Send + Sync + 'static,
+                F: Fn(&mut Call<'_>, $($type),*) -> R + for<'h> Fn(&mut Call<'_>, $($type::Lent<'h>),*) -> R + Send + Sync + 'static,
             {
                 const PARAMETERS: usize = $count;
                 const CHANGES: bool = false;
 
-                #[allow(non_snake_case)]
+                #[allow(unused_mut, unused_variables)]
                 fn call(&self, call: &mut Call<'_>) -> Result<Given, Refused> {
-                    $(let $type = call.argument::<$type>($number)?;)*
-                    self(call, $($type),*).given()
+                    #[allow(clippy::too_many_arguments)]
+                    fn called<R, $($type,)*>(function: impl Fn(&mut Call<'_>, $($type),*) -> R, call: &mut Call<'_>, $($held: $type),*) -> R {
+                        function(call, $($held),*)
+                    }
+                    // (what references among the parameters lead to)
+                    let mut rooms = ($(None::<$type::Held>,)*);
+                    $(let $held = $type::lend(call.argument($number)?, &mut rooms.$number);)*
+                    called(self, call, $($held),*).given()
                 }
             }
 
             impl<$($type: TryInto<Value, Error: Into<EvalError>>,)*> Arguments for ($($type,)*) {
-                #[allow(non_snake_case)]
                 fn into_values(self) -> Result<Vec<Value>, EvalError> {
-                    let ($($type,)*) = self;
-                    Ok(vec![$($type.try_into().map_err(Into::into)?),*])
+                    let ($($held,)*) = self;
+                    Ok(vec![$($held.try_into().map_err(Into::into)?),*])
                 }
             }
         )*
@@ -179,35 +222,54 @@ macro_rules! functions {
 }
 
 macro_rules! changing {
-    ($($count:literal: $($type:ident $number:literal),*;)*) => {
+    ($($count:literal: $($type:ident $held:ident $number:tt),*;)*) => {
         $(
-            impl<F, K, R: Answers<K>, M: Wanted + TryInto<Value, Error: Display>, $($type: Wanted,)*> HostFn<Changing<(M, $($type,)*)>, K> for F
+            impl<F, K, R: Answers<K>, M: Wanted + TryInto<Value, Error: Display>, $($type: Parameter,)*> HostFn<Changing<(M, $($type,)*)>, K> for F
             where
-                F: Fn(&mut M, $($type),*) -> R + Send + Sync + 'static,
+                F: Fn(&mut M, $($type),*) -> R + for<'h> Fn(&mut M, $($type::Lent<'h>),*) -> R + Send + Sync + 'static,
             {
                 const PARAMETERS: usize = $count;
                 const CHANGES: bool = true;
 
+                #[allow(unused_mut, unused_variables)]
                 fn call(&self, call: &mut Call<'_>) -> Result<Given, Refused> {
+                    #[allow(clippy::too_many_arguments)]
+                    fn called<M, R, $($type,)*>(function: impl Fn(&mut M, $($type),*) -> R, first: &mut M, $($held: $type),*) -> R {
+                        function(first, $($held),*)
+                    }
                     let mut first = call.argument::<M>(0)?;
-                    let given = self(&mut first, $(call.argument::<$type>($number)?),*).given();
+                    // (what references among the parameters lead to)
+                    let mut rooms = ((), $(None::<$type::Held>,)*);
+                    $(let $held = $type::lend(call.argument($number)?, &mut rooms.$number);)*
+                    let given = called(self, &mut first, $($held),*).given();
                     put_back(call, first)?;
                     given
                 }
             }
 
-            impl<F, K, R: Answers<K>, M: Wanted + TryInto<Value, Error: Display>, $($type: Wanted,)*> HostFn<WithCall<Changing<(M, $($type,)*)>>, K> for F
+            impl<F, K, R: Answers<K>, M: Wanted + TryInto<Value, Error: Display>, $($type: Parameter,)*> HostFn<WithCall<Changing<(M, $($type,)*)>>, K> for F
             where
-                F: Fn(&mut Call<'_>, &mut M, $($type),*) -> R + Send + Sync + 'static,
+                F: Fn(&mut Call<'_>, &mut M, $($type),*) -> R + for<'h> Fn(&mut Call<'_>, &mut M, $($type::Lent<'h>),*) -> R + Send + Sync + 'static,
             {
                 const PARAMETERS: usize = $count;
                 const CHANGES: bool = true;
 
-                #[allow(non_snake_case)]
+                #[allow(unused_mut, unused_variables)]
                 fn call(&self, call: &mut Call<'_>) -> Result<Given, Refused> {
+                    #[allow(clippy::too_many_arguments)]
+                    fn called<M, R, $($type,)*>(
+                        function: impl Fn(&mut Call<'_>, &mut M, $($type),*) -> R,
+                        call: &mut Call<'_>,
+                        first: &mut M,
+                        $($held: $type),*
+                    ) -> R {
+                        function(call, first, $($held),*)
+                    }
                     let mut first = call.argument::<M>(0)?;
-                    $(let $type = call.argument::<$type>($number)?;)*
-                    let given = self(call, &mut first, $($type),*).given();
+                    // (what references among the parameters lead to)
+                    let mut rooms = ((), $(None::<$type::Held>,)*);
+                    $(let $held = $type::lend(call.argument($number)?, &mut rooms.$number);)*
+                    let given = called(self, call, &mut first, $($held),*).given();
                     put_back(call, first)?;
                     given
                 }
@@ -232,21 +294,21 @@ impl Arguments for Vec<Value> {
 
 functions! {
     0: ;
-    1: A 0;
-    2: A 0, B 1;
-    3: A 0, B 1, C 2;
-    4: A 0, B 1, C 2, D 3;
-    5: A 0, B 1, C 2, D 3, G 4;
-    6: A 0, B 1, C 2, D 3, G 4, H 5;
+    1: A a 0;
+    2: A a 0, B b 1;
+    3: A a 0, B b 1, C c 2;
+    4: A a 0, B b 1, C c 2, D d 3;
+    5: A a 0, B b 1, C c 2, D d 3, G g 4;
+    6: A a 0, B b 1, C c 2, D d 3, G g 4, H h 5;
 }
 
 changing! {
     1: ;
-    2: B 1;
-    3: B 1, C 2;
-    4: B 1, C 2, D 3;
-    5: B 1, C 2, D 3, G 4;
-    6: B 1, C 2, D 3, G 4, H 5;
+    2: B b 1;
+    3: B b 1, C c 2;
+    4: B b 1, C c 2, D d 3;
+    5: B b 1, C c 2, D d 3, G g 4;
+    6: B b 1, C c 2, D d 3, G g 4, H h 5;
 }
 
 /// The closure that is called for a host function.

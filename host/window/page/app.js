@@ -2,11 +2,14 @@
 import { Commands } from "./commands.js";
 import { Editor, element } from "./editor.js";
 import { EXAMPLES } from "./examples.js";
-import { clean, draw, file, functionName, hue, plain } from "./world.js";
+import { Canvas } from "./patch.js";
+import { clean } from "./texts.js";
+import { Lists, callName, groupsOf } from "./values.js";
+import { draw, file } from "./world.js";
 
 const $ = (id) => document.getElementById(id);
-const page = { token: "", session: null, unfolded: new Set(), picture: null, groups: [] };
-const run = { begun: false, busy: false, stops: false, told: null, printed: [], marks: new Map(), changed: new Set(), frame: 0 };
+const page = { token: "", session: null, unfolded: new Set(), picture: null, groups: [], room: 0 };
+const run = { begun: false, busy: false, waits: false, stops: false, told: null, printed: [], marks: new Map(), changed: new Set(), frame: 0 };
 
 function token() {
   const given = location.hash.slice(1);
@@ -17,8 +20,13 @@ function token() {
   return sessionStorage.getItem("token") ?? "";
 }
 
+/// Sets the text of an element, unless it has it: a new text is laid out again.
+function write(name, text) {
+  if ($(name).textContent !== text) $(name).textContent = text;
+}
+
 function notice(text) {
-  $("notice").textContent = text;
+  write("notice", text);
   $("notice").hidden = !text;
 }
 
@@ -36,16 +44,19 @@ async function post(what) {
   throw new Error(answer.status === 410 ? "The session has ended. Run begins a new one." : `The call was refused: ${await answer.text()}`);
 }
 
-/// Calls the session, which is opened if there is none.
+/// Calls the session, which is opened if there is none. It answers with the first items of long
+/// values, and with more of those that are unfolded.
 async function call(what) {
   if (!page.session) page.session = (await post({ do: "open" })).session;
-  const told = await post({ ...what, session: page.session });
+  const told = await post({ ...what, session: page.session, unfolded: [...page.unfolded] });
   if (told.wrong) throw new Error(told.wrong);
   return told;
 }
 
 const editor = new Editor({ root: $("editor"), text: $("script"), shown: $("shown"), gutter: $("gutter") },
   { hasColours: true, onEdit: reset, onBreakpoint: () => {} });
+const lists = new Lists((at) => { run.frame = at; show(); });
+const canvas = new Canvas($("picture"));
 
 function reset() {
   Object.assign(run, { begun: false, told: null, printed: [], marks: new Map(), changed: new Set() });
@@ -53,21 +64,25 @@ function reset() {
   show();
 }
 
-/// Does what a control asks for, one at a time.
+/// Does what a control asks for, one at a time. The controls show it once it takes long, so that a
+/// quick step draws none of them twice.
 async function act(work) {
   if (run.busy) { return; }
-  run.busy = true;
-  run.stops = false;
-  controls();
+  Object.assign(run, { busy: true, stops: false });
+  document.body.dataset.busy = true;
+  const slow = setTimeout(() => { run.waits = true; controls(); }, 150);
   try {
     notice("");
     await work();
   } catch (error) {
     run.begun = false;
     notice(error.message);
+    show();
   }
-  run.busy = false;
-  show();
+  clearTimeout(slow);
+  Object.assign(run, { busy: false, waits: false });
+  document.body.dataset.busy = false;
+  controls();
 }
 
 /// Asks for a goal, and goes on until it is reached or the user stops.
@@ -95,7 +110,7 @@ function take(told) {
   run.printed.length = Math.min(run.printed.length, told.from);
   for (const line of told.printed) run.printed.push(line);
   run.told = told;
-  printed();
+  lists.showPrinted(run.printed);
   controls();
 }
 
@@ -114,57 +129,33 @@ function compare(told) {
   run.frame = 0;
 }
 
-/// Groups of rows of a picture, the innermost function first. A key names a variable at every step.
-function groupsOf(picture) {
-  if (!picture) return [];
-  const rowsOf = (rows, path, isNewestFirst) => {
-    const counts = new Map(), ordered = isNewestFirst ? [...rows].reverse() : rows;
-    const keyed = ordered.map((row) => {
-      const count = (counts.get(row.name) ?? 0) + 1;
-      counts.set(row.name, count);
-      return { ...row, count, key: `${path}/${row.name}/${count}` };
-    });
-    for (const row of keyed) row.hidden = row.count < counts.get(row.name);
-    return keyed;
-  };
-  if (picture.calls) {
-    const all = picture.allCalls;
-    return picture.calls.map((one, at) => ({ title: callName(one), path: `f${all - at}`, all: one.allRows, rows: rowsOf(one.rows, `f${all - at}`, true) }));
-  }
-  const groups = [{ title: picture.title ?? "variables", path: "f1", all: picture.allRows ?? 0, rows: rowsOf(picture.rows ?? [], "f1", false) }];
-  if (picture.allHand > 0) {
-    const rows = picture.hand.map((value, at) => ({ name: String(at), value, key: `hand/${at}`, mark: JSON.stringify(value) }));
-    groups.push({ title: "hand", path: "hand", all: picture.allHand, rows });
-  }
-  return groups;
-}
-
-function callName(one) {
-  return one.name === "" ? "the script" : functionName(one.name);
-}
-
 function show() {
-  const told = run.told;
+  const { told } = run;
   controls();
   editor.show(told && !told.ended ? told.line : 0, told?.error);
   $("error").hidden = !told?.error;
-  $("error").textContent = told?.error ? [told.error.message, ...(told.error.calls ?? []).slice(0, 8).map((one) => `  in ${callName(one)}, line ${one.line}, column ${one.column}`)].join("\n") : "";
-  printed();
+  write("error", told?.error ? errorText(told.error) : "");
+  lists.showPrinted(run.printed);
   const groups = groupsOf(told?.picture);
-  calls(told);
-  variables(groups[Math.min(run.frame, groups.length - 1)], told?.picture);
+  lists.showCalls(told?.picture?.calls ?? [], run.frame);
+  lists.showVariables(groups[Math.min(run.frame, groups.length - 1)], told?.picture, run.changed);
   if (!$("panel-script").hidden) world(told?.picture, groups, run.changed);
 }
 
+function errorText(error) {
+  const calls = (error.calls ?? []).slice(0, 8).map((one) => `  in ${callName(one)}, line ${one.line}, column ${one.column}`);
+  return [error.message, ...calls].join("\n");
+}
+
 function controls() {
-  const { told, busy, begun } = run;
+  const { told, waits, begun } = run;
   const isOver = Boolean(told?.ended);
-  $("run").textContent = begun && !isOver ? "Continue" : "Run";
-  $("run").disabled = $("back").disabled = busy;
-  $("into").disabled = busy || (begun && isOver);
-  $("over").disabled = $("out").disabled = busy || !begun || isOver;
-  $("back").disabled = busy || !begun || !told || told.step <= 1;
-  $("stop").disabled = !busy;
+  write("run", begun && !isOver ? "Continue" : "Run");
+  $("run").disabled = $("back").disabled = waits;
+  $("into").disabled = waits || (begun && isOver);
+  $("over").disabled = $("out").disabled = waits || !begun || isOver;
+  $("back").disabled = waits || !begun || !told || told.step <= 1;
+  $("stop").disabled = !waits;
   const steps = $("steps");
   steps.disabled = !begun || !told?.last;
   steps.max = Math.max(1, told?.last ?? 1);
@@ -172,74 +163,27 @@ function controls() {
   let text = "not started";
   if (begun && told) text = told.last ? `step ${told.step} of ${told.last}` : "not valid";
   if (begun && isOver && told.last) text += told.error ? ": error" : told.value === "()" ? ": done" : `: ${clean(told.value).slice(0, 24)}`;
-  $("step").textContent = text;
-}
-
-function printed() {
-  const out = $("printed");
-  const text = run.printed.join("\n");
-  if (out.textContent === text) return;
-  out.textContent = text;
-  out.scrollTop = out.scrollHeight;
-}
-
-function calls(told) {
-  const list = told?.picture?.calls ?? [];
-  $("calls").hidden = $("no-calls").hidden = false;
-  $(list.length > 0 ? "no-calls" : "calls").hidden = true;
-  $("calls").replaceChildren(...list.map((one, at) => {
-    const button = element("button", "", `${callName(one)}, line ${one.line}`);
-    button.setAttribute("role", "option");
-    button.setAttribute("aria-selected", at === run.frame);
-    button.addEventListener("click", () => { run.frame = at; show(); });
-    return button;
-  }));
-}
-
-/// A value as text, with what its cell holds behind a dot.
-function textOf(value, picture, level) {
-  const parts = [];
-  if (value.const) parts.push("const ");
-  if (value.k === "cell") {
-    parts.push(element("span", `dot ${hue(value.n)}`));
-    const content = picture.cells[value.n];
-    return level > 3 || !content ? [...parts, `cell ${value.n}`] : [...parts, ...textOf(content, picture, level + 1)];
-  }
-  const own = plain(value);
-  if (own !== null) return [...parts, clean(own)];
-  const [open, close] = value.k === "map" ? ["#{", "}"] : value.k === "fn" ? [`${functionName(value.s)}(`, ")"] : ["[", "]"];
-  parts.push(open);
-  for (const [at, item] of value.of.slice(0, level > 2 ? 0 : 8).entries()) {
-    if (at > 0) parts.push(", ");
-    if (value.k === "map") parts.push(`${clean(value.keys[at])}: `);
-    parts.push(...textOf(item, picture, level + 1));
-  }
-  return [...parts, value.n > 8 || level > 2 ? ` .. ${value.n}` : "", close];
-}
-
-function variables(group, picture) {
-  const rows = group ? (picture.calls ? [...group.rows].reverse() : group.rows) : [];
-  $("variables").tBodies[0].replaceChildren(...rows.map((row) => {
-    const line = element("tr", `${run.changed.has(row.key) ? "changed" : ""} ${row.hidden ? "hidden" : ""}`);
-    const name = element("th", "", clean(row.name)), value = element("td");
-    name.scope = "row";
-    value.append(...textOf(row.value, picture, 0));
-    value.title = value.textContent;
-    line.append(name, value);
-    return line;
-  }));
+  write("step", text);
 }
 
 function world(picture, groups, changed) {
   Object.assign(page, { picture, groups });
   $("save").disabled = !picture;
-  $("count").textContent = picture ? `${picture.values} value${picture.values === 1 ? "" : "s"}` : "";
-  if (!picture) { $("picture").replaceChildren(element("p", "", "The values stand here while a script runs, or after a command.")); return; }
+  write("count", picture ? `${picture.values} value${picture.values === 1 ? "" : "s"}` : "");
+  if (!picture) { canvas.replace(element("p", "", "The values stand here while a script runs, or after a command.")); return; }
   for (const group of groups) for (const row of group.rows) row.changed = changed.has(row.key);
   const focused = document.activeElement?.dataset?.path;
-  const room = $("picture").clientWidth - 18;
-  $("picture").replaceChildren(draw(picture, groups, page.unfolded, room));
-  if (focused) $("picture").querySelector(`[data-path="${CSS.escape(focused)}"]`)?.focus();
+  canvas.show(draw(picture, groups, page.unfolded, page.room));
+  const isLost = focused && document.activeElement?.dataset?.path !== focused;
+  if (isLost) $("picture").querySelector(`[data-path="${CSS.escape(focused)}"]`)?.focus();
+}
+
+/// Draws again if the room for the drawing is less, or much more. A bar to scroll may take some of
+/// it, and give it back, without another drawing.
+function fit(room) {
+  if (room >= page.room && room < page.room + 20) return;
+  page.room = room;
+  redraw();
 }
 
 function unfold(event) {
@@ -248,9 +192,17 @@ function unfold(event) {
   event.preventDefault();
   event.stopPropagation();
   const { path } = fold.dataset;
-  if (!page.unfolded.delete(path)) page.unfolded.add(path);
+  const isOpened = !page.unfolded.delete(path);
+  if (isOpened) page.unfolded.add(path);
   fold.focus();
   redraw();
+  if (isOpened) more();
+}
+
+/// Asks for the items of a value that was unfolded.
+function more() {
+  if ($("panel-script").hidden) commands.again();
+  else if (run.begun) act(async () => { take(await call({ do: "look" })); show(); });
 }
 
 /// Draws the same picture again, as after a change of the room for it.
@@ -313,7 +265,7 @@ async function handOn() {
   }
 }
 
-const commands = new Commands({ call, groupsOf, world, notice });
+const commands = new Commands({ call, world, notice });
 
 function tab(name) {
   for (const one of ["script", "lines"]) {
@@ -346,13 +298,15 @@ function key(event) {
   event.preventDefault();
 }
 
-async function start() {
-  page.token = token();
+function listen() {
   for (const name of Object.keys(actions)) $(name).addEventListener("click", actions[name]);
   $("steps").addEventListener("input", slide);
   $("hand-on").addEventListener("click", handOn);
   $("save").addEventListener("click", save);
-  $("help-button").addEventListener("click", () => { $("help").hidden = !$("help").hidden; $("help-button").setAttribute("aria-expanded", !$("help").hidden); });
+  $("help-button").addEventListener("click", () => {
+    $("help").hidden = !$("help").hidden;
+    $("help-button").setAttribute("aria-expanded", !$("help").hidden);
+  });
   for (const name of ["script", "lines"]) $(`tab-${name}`).addEventListener("click", () => tab(name));
   document.querySelector(".tabs").addEventListener("keydown", (event) => {
     if (event.key !== "ArrowLeft" && event.key !== "ArrowRight") return;
@@ -360,16 +314,27 @@ async function start() {
     tab(other);
     $(`tab-${other}`).focus();
   });
-  $("examples").append(...EXAMPLES.map((one, at) => new Option(one.title, at)));
   $("examples").addEventListener("change", () => example(Number($("examples").value)));
   $("picture").addEventListener("click", unfold);
   $("picture").addEventListener("keydown", unfold);
   $("picture").addEventListener("pointerover", light);
   document.addEventListener("keydown", key);
-  addEventListener("resize", redraw);
-  addEventListener("pagehide", () => {
-    if (page.session) fetch("call", { method: "POST", keepalive: true, headers: { "Content-Type": "application/json", "X-Token": page.token }, body: JSON.stringify({ do: "end", session: page.session }) });
-  });
+  new ResizeObserver(([entry]) => fit(entry.contentRect.width - 2)).observe($("picture"));
+  addEventListener("pagehide", end);
+}
+
+/// Ends the session of a page that is left.
+function end() {
+  if (!page.session) return;
+  const headers = { "Content-Type": "application/json", "X-Token": page.token };
+  fetch("call", { method: "POST", keepalive: true, headers, body: JSON.stringify({ do: "end", session: page.session }) });
+}
+
+async function start() {
+  page.token = token();
+  page.room = $("picture").clientWidth - 18;
+  $("examples").append(...EXAMPLES.map((one, at) => new Option(one.title, at)));
+  listen();
   example(0);
   try {
     const opened = await post({ do: "open" });

@@ -1,6 +1,7 @@
 // The tab of commands: lines over one world, and their answers.
 import { Editor, element } from "./editor.js";
-import { clean } from "./world.js";
+import { clean } from "./texts.js";
+import { groupsOf } from "./values.js";
 
 const $ = (id) => document.getElementById(id);
 
@@ -42,12 +43,27 @@ export class Commands {
   /// Runs the first lines over a new world.
   async run(count) {
     try {
-      this.page.notice("");
-      const told = await this.page.call({ do: "lines", text: this.editor.value, count });
-      told.picture.title = "entries";
-      const marks = new Map(this.page.groupsOf(told.picture).flatMap((group) => group.rows.map((row) => [row.key, row.mark])));
+      const told = await this.ask(count);
+      const marks = new Map(groupsOf(told.picture).flatMap((group) => group.rows.map((row) => [row.key, row.mark])));
       this.changed = new Set([...marks.keys()].filter((key) => this.told && marks.get(key) !== this.marks.get(key)));
       Object.assign(this, { told, count, marks });
+    } catch (error) {
+      this.page.notice(error.message);
+    }
+    this.show();
+  }
+
+  async ask(count) {
+    this.page.notice("");
+    const told = await this.page.call({ do: "lines", text: this.editor.value, count });
+    told.picture.title = "entries";
+    return told;
+  }
+
+  /// Runs the same lines again, for the items of a value that was unfolded.
+  async again() {
+    try {
+      if (this.told) this.told = await this.ask(this.count);
     } catch (error) {
       this.page.notice(error.message);
     }
@@ -66,7 +82,7 @@ export class Commands {
     $("line-count").textContent = this.told ? `after line ${this.count} of ${this.all()}` : "not started";
     $("previous-line").disabled = this.count === 0;
     $("next-line").disabled = this.count >= this.all();
-    this.page.world(this.told?.picture, this.page.groupsOf(this.told?.picture), this.changed);
+    this.page.world(this.told?.picture, groupsOf(this.told?.picture), this.changed);
   }
 
   key(event, isEnter) {

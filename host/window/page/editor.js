@@ -62,6 +62,8 @@ export class Editor {
     this.breakpoints = new Set();
     this.now = 0;
     this.error = null;
+    this.painted = null;
+    this.pieces = [];
     this.text.addEventListener("input", () => { this.paint(); options.onEdit(); });
     this.gutter.addEventListener("click", (event) => {
       const line = Number(event.target.dataset?.line);
@@ -74,35 +76,53 @@ export class Editor {
   set value(text) {
     this.text.value = text;
     this.breakpoints.clear();
+    this.painted = null;
     this.show(0, null);
     this.root.scrollTop = 0;
   }
 
   /// Shows a line as the one that runs, and an error at its column.
   show(now, error) {
+    const before = [this.now, this.error?.line];
     this.now = now;
     this.error = error?.line ? error : null;
-    this.paint();
-    const line = this.shown.children[(this.error?.line ?? now) - 1];
-    if (line) this.reveal(line);
+    if (this.painted === this.value) for (const line of new Set([...before, this.now, this.error?.line])) this.repaint(line);
+    else this.paint();
+    // (in a frame, all is laid out anyway)
+    if (now || this.error) requestAnimationFrame(() => this.reveal());
   }
 
-  reveal(line) {
+  /// Scrolls to the line of the error, or to the one that runs.
+  reveal() {
+    const line = this.shown.children[(this.error?.line ?? this.now) - 1];
+    if (!line) return;
     const { scrollTop, clientHeight } = this.root;
     const top = line.offsetTop;
     if (top < scrollTop + 20) this.root.scrollTop = Math.max(0, top - 40);
     else if (top + 40 > scrollTop + clientHeight) this.root.scrollTop = top + 60 - clientHeight;
   }
 
+  /// Paints all lines, as after an edit.
   paint() {
-    const lines = piecesOf(this.value, this.options.hasColours);
-    this.shown.replaceChildren(...lines.map((pieces, at) => {
-      const line = element("span", at + 1 === this.now ? "line now" : "line");
-      const marked = this.error?.line === at + 1 ? underlined(pieces, this.error.column) : pieces;
-      line.append(...marked.map(([kind, text]) => (kind ? element("span", kind, text) : text)));
-      return line;
-    }));
-    this.gutter.replaceChildren(...lines.map((_, at) => this.number(at + 1)));
+    this.painted = this.value;
+    this.pieces = piecesOf(this.value, this.options.hasColours);
+    this.shown.replaceChildren(...this.pieces.map((_, at) => this.line(at + 1)));
+    this.gutter.replaceChildren(...this.pieces.map((_, at) => this.number(at + 1)));
+  }
+
+  /// Paints one line again, if there is such a line.
+  repaint(line) {
+    if (!this.pieces[line - 1]) return;
+    this.shown.children[line - 1].replaceWith(this.line(line));
+    this.gutter.children[line - 1].replaceWith(this.number(line));
+  }
+
+  line(number) {
+    const pieces = this.pieces[number - 1], isWrong = this.error?.line === number;
+    const made = element("span", number === this.now ? "line now" : "line");
+    const marked = isWrong ? underlined(pieces, this.error.column) : pieces;
+    made.append(...marked.map(([kind, text]) => (kind ? element("span", kind, text) : text)));
+    return made;
   }
 
   number(line) {
@@ -119,7 +139,7 @@ export class Editor {
   toggle(line) {
     if (!this.options.onBreakpoint) return;
     if (!this.breakpoints.delete(line)) this.breakpoints.add(line);
-    this.paint();
+    this.repaint(line);
     this.options.onBreakpoint();
   }
 

@@ -104,7 +104,7 @@ print(total);
   },
   {
     title: "One error caught, one not",
-    about: "The first error is caught, and the variable has what the message says. The second one ends the run: its line and column are underlined, and the calls are listed. The world shows the variables that the script left.",
+    about: "The first error is caught, and the variable has what the message says. The second one ends the run: its line and column are underlined, and the calls are listed. The world shows the values right before that.",
     script: `fn item(list, at) {
     list[at]
 }

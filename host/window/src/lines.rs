@@ -1,5 +1,5 @@
 //! Lines of commands over one world.
-use crate::picture::{cut, picture};
+use crate::picture::{cut, picture, unfolded, Unfolded};
 use rhai_world::{Answer, Error, Limits, Refusal, World};
 use serde_json::{json, Value};
 use std::num::NonZeroUsize;
@@ -13,10 +13,10 @@ const MEMORY: Option<NonZeroUsize> = NonZeroUsize::new(8 << 20);
 pub fn lines(asked: &Value) -> Value {
     let text = asked["text"].as_str().unwrap_or_default();
     let count = asked["count"].as_u64().and_then(|count| usize::try_from(count).ok()).unwrap_or(MOST_LINES);
-    run(text, count.min(MOST_LINES)).unwrap_or_else(|error| json!({ "wrong": error.to_string() }))
+    run(text, count.min(MOST_LINES), &unfolded(asked)).unwrap_or_else(|error| json!({ "wrong": error.to_string() }))
 }
 
-fn run(text: &str, count: usize) -> Result<Value, Error> {
+fn run(text: &str, count: usize, unfolded: &Unfolded) -> Result<Value, Error> {
     let mut world = World::new(Limits::new().with_memory(MEMORY))?;
     let mut answers = Vec::new();
     for line in text.split('\n').take(count) {
@@ -27,7 +27,7 @@ fn run(text: &str, count: usize) -> Result<Value, Error> {
         let answer = world.line(line);
         answers.push(json!({ "s": cut(&words(&answer)), "refused": answer.is_err() }));
     }
-    Ok(json!({ "answers": answers, "picture": picture(&world.snapshot()?) }))
+    Ok(json!({ "answers": answers, "picture": picture(&world.snapshot()?, unfolded) }))
 }
 
 /// Writes an answer as the program for lines prints it.

@@ -11,6 +11,7 @@
 //! has a token behind `#`, which browsers don't send: the page sends it in a header with each call.
 #![forbid(unsafe_code)]
 
+mod failure;
 mod handed;
 mod lines;
 mod mark;
@@ -20,6 +21,7 @@ mod script;
 mod server;
 mod sessions;
 mod token;
+mod walk;
 
 use server::Site;
 use std::io::{self, Write};

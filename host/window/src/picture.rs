@@ -2,13 +2,23 @@
 use crate::mark::Marks;
 use rhai_world::{Seen, SeenVariables, Shape, Snapshot};
 use serde_json::{json, Map, Value};
+use std::collections::HashSet;
 
 /// The most values of a picture.
 const MOST_VALUES: usize = 2_000;
 
-/// The most items of an array, a map or a function pointer, and how deep they nest.
-const MOST_ITEMS: usize = 40;
-const MOST_LEVELS: usize = 10;
+/// The most items of an array, a map or a function pointer that the user unfolded, and how deep
+/// these may be.
+const MOST_ITEMS: usize = 200;
+const MOST_LEVELS: usize = 60;
+
+/// A folded value of at most `SHORT` items has them all, since they may fit on one line, down to
+/// `SHORT_LEVELS`. A longer one has its first `FEW` items, which the page shows, down to
+/// `FEW_LEVELS`.
+const SHORT: usize = 12;
+const SHORT_LEVELS: usize = 10;
+const FEW: usize = 8;
+const FEW_LEVELS: usize = 4;
 
 /// The most variables of one function, and the most functions.
 const MOST_ROWS: usize = 100;
@@ -17,20 +27,33 @@ const MOST_CALLS: usize = 12;
 /// The most characters of a text.
 const MOST_TEXT: usize = 160;
 
+/// The paths of the values that the user unfolded, as the page names them: `f2/list/0` is the first
+/// item of the variable `list` of the second function from outside, `cell 3/0` one of a cell's.
+pub type Unfolded = HashSet<String>;
+
+/// Returns the paths that a call of the page has.
+pub fn unfolded(asked: &Value) -> Unfolded {
+    asked["unfolded"].as_array().into_iter().flatten().filter_map(|path| Some(path.as_str()?.to_owned())).collect()
+}
+
 /// Returns what is drawn: functions or variables, the hand, and each cell that these reach. What is
 /// left out is counted.
-pub fn picture(snapshot: &Snapshot) -> Value {
-    let mut painter = Painter { snapshot, marks: Marks::new(snapshot), left: MOST_VALUES, cells: Vec::new() };
+pub fn picture(snapshot: &Snapshot, unfolded: &Unfolded) -> Value {
+    let (marks, left) = (Marks::new(snapshot), MOST_VALUES);
+    let mut painter = Painter { snapshot, unfolded, marks, left, cells: Vec::new(), path: String::new() };
     let mut drawn = Map::new();
     if snapshot.is_of_run() {
         drawn.insert("calls".to_owned(), painter.calls());
         drawn.insert("allCalls".to_owned(), snapshot.calls().len().into());
     } else {
-        drawn.insert("rows".to_owned(), painter.rows(snapshot.variables()));
+        drawn.insert("rows".to_owned(), painter.rows("f1", snapshot.variables()));
         drawn.insert("allRows".to_owned(), snapshot.variables().len().into());
     }
-    let hand: Vec<Value> = snapshot.hand().take(MOST_ROWS).map(|value| painter.value(value, MOST_LEVELS)).collect();
+    let hand = snapshot.hand().take(MOST_ROWS).enumerate();
+    let hand: Vec<Value> = hand.map(|(at, value)| painter.root(format!("hand/{at}"), value)).collect();
     drawn.insert("hand".to_owned(), hand.into());
+    let marks: Vec<Value> = snapshot.hand().take(MOST_ROWS).map(|value| json!(painter.marks.mark(value))).collect();
+    drawn.insert("handMarks".to_owned(), marks.into());
     drawn.insert("allHand".to_owned(), snapshot.hand().len().into());
     drawn.insert("cells".to_owned(), painter.contents());
     drawn.insert("values".to_owned(), snapshot.value_count().into());
@@ -39,39 +62,46 @@ pub fn picture(snapshot: &Snapshot) -> Value {
 
 struct Painter<'a> {
     snapshot: &'a Snapshot,
+    unfolded: &'a Unfolded,
     marks: Marks<'a>,
     /// How many more values may be drawn.
     left: usize,
     /// The cells that were reached, in order.
     cells: Vec<usize>,
+    /// The path of the value that is drawn now.
+    path: String,
 }
 
 impl<'a> Painter<'a> {
     fn calls(&mut self) -> Value {
         let calls = self.snapshot.calls();
-        calls
-            .take(MOST_CALLS)
-            .map(|call| {
-                let place = call.place();
-                let count = call.variables().len();
-                json!({
-                    "name": place.function,
-                    "line": place.line,
-                    "column": place.column,
-                    "rows": self.rows(call.variables()),
-                    "allRows": count,
-                })
-            })
-            .collect()
+        let all = calls.len();
+        let mut drawn = Vec::new();
+        for (at, call) in calls.take(MOST_CALLS).enumerate() {
+            let place = call.place();
+            let rows = self.rows(&format!("f{}", all - at), call.variables());
+            let all_rows = call.variables().len();
+            drawn.push(json!({
+                "name": place.function, "line": place.line, "column": place.column, "rows": rows, "allRows": all_rows,
+            }));
+        }
+        drawn.into()
     }
 
-    fn rows(&mut self, variables: SeenVariables<'a>) -> Value {
+    fn rows(&mut self, path: &str, variables: SeenVariables<'a>) -> Value {
         let mut rows = Vec::new();
         for (name, value) in variables.take(MOST_ROWS) {
-            let mark = self.marks.mark(value);
-            rows.push(json!({ "name": cut(name), "mark": mark, "value": self.value(value, MOST_LEVELS) }));
+            let name = cut(name);
+            let drawn = self.root(format!("{path}/{name}"), value);
+            rows.push(json!({ "name": name, "mark": self.marks.mark(value), "value": drawn }));
         }
         rows.into()
+    }
+
+    /// Draws a value that is in no other one.
+    fn root(&mut self, path: String, value: Seen<'a>) -> Value {
+        self.path = path;
+        self.value(value, 0)
     }
 
     /// Draws the cells that were reached, and those that they reach.
@@ -83,15 +113,15 @@ impl<'a> Painter<'a> {
                 break;
             }
             if let Some(content) = self.snapshot.cell(number) {
-                contents.insert(number.to_string(), self.value(content, MOST_LEVELS));
+                contents.insert(number.to_string(), self.root(format!("cell {number}"), content));
             }
         }
         Value::Object(contents)
     }
 
-    /// Draws a value: `k` is its kind, `s` its text, `n` the number of values inside, `of` those that
-    /// are drawn.
-    fn value(&mut self, value: Seen<'a>, levels: usize) -> Value {
+    /// Draws a value: `k` is its kind, `s` its text, `n` the number of values inside, `of`
+    /// those that are drawn.
+    fn value(&mut self, value: Seen<'a>, level: usize) -> Value {
         self.left = self.left.saturating_sub(1);
         let mut drawn = match value.shape() {
             Shape::Unit => json!({ "k": "unit", "s": "()" }),
@@ -108,14 +138,14 @@ impl<'a> Painter<'a> {
                 }
                 json!({ "k": "cell", "n": number })
             }
-            Shape::Array(items) => json!({ "k": "array", "n": items.len(), "of": self.items(items, levels) }),
+            Shape::Array(items) => json!({ "k": "array", "n": items.len(), "of": self.items(items, level) }),
             Shape::FnPtr(name, items) => {
-                json!({ "k": "fn", "s": cut(name), "n": items.len(), "of": self.items(items, levels) })
+                json!({ "k": "fn", "s": cut(name), "n": items.len(), "of": self.items(items, level) })
             }
             Shape::Map(fields) => {
-                let count = fields.len();
-                let (keys, values): (Vec<_>, Vec<_>) = fields.take(MOST_ITEMS).map(|(key, value)| (cut(key), value)).unzip();
-                json!({ "k": "map", "n": count, "keys": keys, "of": self.items(values.into_iter(), levels) })
+                let (count, most) = (fields.len(), self.most(fields.len(), level));
+                let keys: Vec<_> = fields.clone().take(most).map(|(key, _)| cut(key)).collect();
+                json!({ "k": "map", "n": count, "keys": keys, "of": self.items(fields.map(|(_, value)| value), level) })
             }
             _ => json!({ "k": "other", "s": "?" }),
         };
@@ -128,17 +158,31 @@ impl<'a> Painter<'a> {
         drawn
     }
 
-    fn items(&mut self, items: impl Iterator<Item = Seen<'a>>, levels: usize) -> Value {
+    fn items(&mut self, items: impl ExactSizeIterator<Item = Seen<'a>>, level: usize) -> Value {
+        let most = self.most(items.len(), level);
         let mut drawn = Vec::new();
-        if let Some(levels) = levels.checked_sub(1) {
-            for item in items.take(MOST_ITEMS) {
-                if self.left == 0 {
-                    break;
-                }
-                drawn.push(self.value(item, levels));
+        for (at, item) in items.take(most).enumerate() {
+            if self.left == 0 {
+                break;
             }
+            let end = self.path.len();
+            self.path.push('/');
+            self.path.push_str(&at.to_string());
+            drawn.push(self.value(item, level + 1));
+            self.path.truncate(end);
         }
         drawn.into()
+    }
+
+    /// Returns how many items of the value at the path are drawn, of this many.
+    fn most(&self, count: usize, level: usize) -> usize {
+        match level {
+            MOST_LEVELS.. => 0,
+            _ if self.unfolded.contains(&self.path) => MOST_ITEMS,
+            ..SHORT_LEVELS if count <= SHORT => count,
+            ..FEW_LEVELS => FEW,
+            _ => 0,
+        }
     }
 }
 
@@ -153,19 +197,19 @@ fn hex(bytes: &[u8]) -> String {
 
 #[cfg(test)]
 mod tests {
-    use super::picture;
+    use super::{picture, unfolded};
     use rhai_world::{Engine, EvalError, Scope};
     use serde_json::{json, Value};
 
-    fn drawn(script: &str) -> Result<Value, EvalError> {
+    fn drawn(script: &str, paths: Value) -> Result<Value, EvalError> {
         let mut scope = Scope::new()?;
         Engine::new().run_with_scope(&mut scope, script)?;
-        Ok(picture(&scope.snapshot()?))
+        Ok(picture(&scope.snapshot()?, &unfolded(&json!({ "unfolded": paths }))))
     }
 
     #[test]
     fn shared_cells_are_drawn_once() -> Result<(), EvalError> {
-        let drawn = drawn("let n = 7; let add = |by| n += by; const C = [1, 'c'];")?;
+        let drawn = drawn("let n = 7; let add = |by| n += by; const C = [1, 'c'];", json!([]))?;
         assert_eq!(drawn["rows"][0]["value"], json!({ "k": "cell", "n": 0 }));
         assert_eq!(drawn["rows"][1]["value"]["of"], json!([{ "k": "cell", "n": 0 }]));
         assert_eq!(drawn["rows"][2]["value"]["const"], json!(true));
@@ -174,14 +218,40 @@ mod tests {
         Ok(())
     }
 
+    fn count(value: &Value) -> Option<usize> {
+        value["of"].as_array().map(Vec::len)
+    }
+
     #[test]
     fn large_values_are_cut() -> Result<(), EvalError> {
-        let drawn = drawn("let all = []; for n in 0..10_000 { all.push([n, #{k: n}]); } let t = \"\"; t.pad(500, 'x');")?;
-        let all = &drawn["rows"][0]["value"];
-        assert_eq!((&all["n"], all["of"].as_array().map(Vec::len)), (&json!(10_000), Some(40)));
-        let text = &drawn["rows"][1]["value"];
+        let script = "let all = []; for n in 0..10_000 { all.push([n, #{k: n}]); } let t = \"\"; t.pad(500, 'x');";
+        let folded = drawn(script, json!([]))?;
+        let all = &folded["rows"][0]["value"];
+        assert_eq!((&all["n"], count(all), count(&all["of"][7])), (&json!(10_000), Some(8), Some(2)));
+        let text = &folded["rows"][1]["value"];
         assert_eq!((text["s"].as_str().map(str::len), &text["n"]), (Some(160), &json!(500)));
-        assert_eq!(drawn["values"], json!(40_002));
+        assert_eq!(folded["values"], json!(40_002));
+        assert!(folded.to_string().len() < 2_000);
+        let open = drawn(script, json!(["f1/all"]))?;
+        assert_eq!(count(&open["rows"][0]["value"]), Some(200));
+        Ok(())
+    }
+
+    #[test]
+    fn unfolded_values_have_their_items() -> Result<(), EvalError> {
+        let script = "let deep = 1; for n in 0..9 { deep = [deep]; deep.pad(20, 0); } let see = || deep;";
+        let folded = drawn(script, json!([]))?;
+        let mut value = &folded["cells"]["0"];
+        let mut counts = Vec::new();
+        while let Some(inside) = count(value) {
+            counts.push(inside);
+            value = &value["of"][0];
+        }
+        assert_eq!(counts, [8, 8, 8, 8, 0]);
+        let open = drawn(script, json!(["cell 0/0", "cell 0/0/0/0/0"]))?;
+        let outer = &open["cells"]["0"];
+        assert_eq!((count(outer), count(&outer["of"][0])), (Some(8), Some(20)));
+        assert_eq!(count(&outer["of"][0]["of"][0]["of"][0]["of"][0]), Some(20));
         Ok(())
     }
 }

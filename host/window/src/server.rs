@@ -3,16 +3,20 @@ use crate::page::FILES;
 use crate::sessions::Sessions;
 use crate::token::is_same;
 use serde_json::{json, Value};
-use std::io::{Cursor, Read};
+use std::fmt::Write as _;
+use std::io::{self, Read, Write as _};
+use std::net::TcpStream;
 use std::sync::Arc;
-use std::time::Duration;
-use tiny_http::{Header, Method, Request, Response, Server};
+use std::time::{Duration, Instant};
+use tiny_http::{Method, Request, Server, StatusCode};
 
 /// The most bytes of a call.
 const MOST_BODY: usize = 256 * 1024;
 
-/// How often the server looks for sessions that are idle.
-const ROUND: Duration = Duration::from_secs(60);
+/// How long the server waits for a request before it looks after connections and sessions: soon
+/// after a request, and less often while there is none.
+const SOON: Duration = Duration::from_millis(50);
+const SELDOM: Duration = Duration::from_secs(2);
 
 /// Headers of every answer. The page has no part from elsewhere, and no other page may show it.
 const HEADERS: [(&str, &str); 8] = [
@@ -30,7 +34,12 @@ const HEADERS: [(&str, &str); 8] = [
     ("Permissions-Policy", "camera=(), geolocation=(), microphone=()"),
 ];
 
-type Answer = Response<Cursor<Vec<u8>>>;
+/// What a request gets.
+struct Answer {
+    status: u16,
+    kind: &'static str,
+    text: String,
+}
 
 /// The page at its address, and its sessions.
 pub struct Site {
@@ -60,17 +69,33 @@ impl Site {
     /// nobody else waiting.
     pub fn serve(self) -> Result<(), String> {
         let site = Arc::new(self);
+        let mut wait = SOON;
         loop {
-            let request = site.server.recv_timeout(ROUND).map_err(|error| error.to_string())?;
-            site.sessions.end_idle();
-            let Some(mut request) = request else { continue };
+            let request = site.server.recv_timeout(wait).map_err(|error| error.to_string())?;
+            site.sessions.end_idle(Instant::now());
+            let Some(mut request) = request else {
+                site.nudge();
+                wait = SELDOM.min(wait * 2);
+                continue;
+            };
+            wait = SOON;
             let site = Arc::clone(&site);
             let thread = std::thread::Builder::new().spawn(move || {
                 let answer = site.answer(&mut request).unwrap_or_else(|(status, why)| refusal(status, why));
                 // (if this fails, the client is gone)
-                let _sent = request.respond(answer);
+                let _sent = send(request, &answer);
             });
             drop(thread);
+        }
+    }
+
+    /// Begins and ends a connection. tiny_http may have queued two connections for one free thread,
+    /// and then the second one waits while the first one is open, for minutes if a browser keeps it.
+    /// This one gets a new thread, which takes the next connection of the queue.
+    fn nudge(&self) {
+        if let Ok(address) = self.host.parse() {
+            // (if this fails, the next one may not)
+            drop(TcpStream::connect_timeout(&address, SOON));
         }
     }
 
@@ -83,7 +108,7 @@ impl Site {
             Method::Post if request.url() == "/call" => {
                 self.check(request)?;
                 let asked = body(request)?;
-                Ok(answer(200, "application/json", self.call(asked)?.to_string()))
+                Ok(Answer { status: 200, kind: "application/json", text: self.call(asked)?.to_string() })
             }
             Method::Post => Err((404, "no such call")),
             _ => Err((405, "only GET and POST")),
@@ -116,7 +141,7 @@ impl Site {
     fn call(&self, asked: Value) -> Result<Value, (u16, &'static str)> {
         match (asked["do"].as_str(), asked["session"].as_str()) {
             (Some("open"), _) => {
-                let session = self.sessions.open().map_err(|_| (503, "no session"))?;
+                let session = self.sessions.open(Instant::now()).map_err(|_| (503, "no session"))?;
                 Ok(json!({ "session": session, "script": self.script }))
             }
             (Some("end"), Some(session)) => {
@@ -125,7 +150,7 @@ impl Site {
             }
             (Some(_), Some(session)) => {
                 let session = session.to_owned();
-                self.sessions.ask(&session, asked).ok_or((410, "the session has ended"))
+                self.sessions.ask(&session, asked, Instant::now()).ok_or((410, "the session has ended"))
             }
             _ => Err((400, "no call")),
         }
@@ -153,17 +178,31 @@ fn body(request: &mut Request) -> Result<Value, (u16, &'static str)> {
 /// Returns the file of the page at a path.
 fn file(path: &str) -> Option<Answer> {
     let file = FILES.iter().find(|file| file.path == path)?;
-    Some(answer(200, file.kind, file.text.to_owned()))
+    Some(Answer { status: 200, kind: file.kind, text: file.text.to_owned() })
 }
 
 fn refusal(status: u16, why: &str) -> Answer {
-    answer(status, "text/plain; charset=utf-8", format!("{why}\n"))
+    Answer { status, kind: "text/plain; charset=utf-8", text: format!("{why}\n") }
 }
 
-fn answer(status: u16, kind: &str, text: String) -> Answer {
-    let headers = HEADERS.into_iter().chain([("Content-Type", kind)]);
-    // (from_string has a Content-Type of its own; the last one of a name stays)
-    headers
-        .filter_map(|(name, value)| Header::from_bytes(name, value).ok())
-        .fold(Response::from_string(text).with_status_code(status), Response::with_header)
+/// Sends an answer with one write. Of two writes, the system would hold back the second one until
+/// the browser confirms the first, which takes 40 ms.
+fn send(request: Request, answer: &Answer) -> io::Result<()> {
+    let status = StatusCode(answer.status);
+    let mut text = format!("HTTP/1.1 {} {}\r\n", answer.status, status.default_reason_phrase());
+    let length = answer.text.len().to_string();
+    // (a page needs a connection for each of its files at first, and then one for its calls)
+    let connection = if *request.method() == Method::Post { "keep-alive" } else { "close" };
+    let own = [("Connection", connection), ("Content-Type", answer.kind), ("Content-Length", &length)];
+    for (name, value) in HEADERS.into_iter().chain(own) {
+        // (writing to a text can't fail)
+        let _written = write!(text, "{name}: {value}\r\n");
+    }
+    text.push_str("\r\n");
+    if *request.method() != Method::Head {
+        text.push_str(&answer.text);
+    }
+    let mut writer = request.into_writer();
+    writer.write_all(text.as_bytes())?;
+    writer.flush()
 }

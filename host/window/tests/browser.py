@@ -18,6 +18,18 @@ IMAGE = "<img src=x onerror=alert(1)>"
 LARGE = "let all = []; for i in 0..100 { let row = []; for j in 0..99 { row.push(j); } all.push(row); }\n" + \
         "\n".join(f"let v{n} = {n};" for n in range(14))
 
+ROUNDS = 8
+# (makes a step, and waits for the frame that has it)
+STEP = """(async () => {
+  const began = performance.now();
+  const done = new Promise((done) => new MutationObserver(done).observe(document.body, { attributeFilter: ["data-took"] }));
+  document.getElementById("into").click();
+  await done;
+  const { port1, port2 } = new MessageChannel();
+  await new Promise((done) => { port1.onmessage = done; requestAnimationFrame(() => port2.postMessage(0)); });
+  return performance.now() - began;
+})()"""
+
 
 class Served:
     """The program, and what it prints."""
@@ -27,9 +39,9 @@ class Served:
         self.address = self.process.stdout.readline().strip()
         self.host, self.token = self.address.removeprefix("http://").split("/#")
 
-    def raw(self, first, headers, body=""):
+    def raw(self, first, headers, body="", seconds=120):
         """The status and the whole answer of a request that is written by hand."""
-        with socket.create_connection(("127.0.0.1", int(self.host.split(":")[1])), timeout=300) as made:
+        with socket.create_connection(("127.0.0.1", int(self.host.split(":")[1])), timeout=seconds) as made:
             lines = [first, *headers, f"Content-Length: {len(body)}", "Connection: close", "", body]
             made.sendall("\r\n".join(lines).encode())
             answer = b""
@@ -61,7 +73,7 @@ class Page:
         self.browser.wait("document.body?.dataset.ready === 'true'")
 
     def idle(self):
-        self.browser.wait("!document.getElementById('run').disabled")
+        self.browser.wait("document.body.dataset.busy !== 'true'")
 
     def click(self, *names):
         for name in names:
@@ -72,6 +84,7 @@ class Page:
         self.value(f"(() => {{ const all = document.getElementById('examples'); all.value = {number}; all.dispatchEvent(new Event('change')); }})()")
 
     def write(self, script, field="script"):
+        self.idle()
         self.value("document.querySelectorAll('#gutter [aria-pressed=true]').forEach((one) => one.click())")
         self.value(f"(() => {{ const text = document.getElementById('{field}'); text.value = {json.dumps(script)}; "
                    "text.dispatchEvent(new Event('input')); })()")
@@ -130,9 +143,20 @@ def the_page_alone_may_call(page):
     equal(page.value("location.href"), f"http://{served.host}/")
 
 
+def no_connection_waits_for_another(page):
+    served, idle = page.served, []
+    port = int(served.host.split(":")[1])
+    for _ in range(12):
+        idle.append(socket.create_connection(("127.0.0.1", port)))
+        equal(served.raw("GET / HTTP/1.1", [f"Host: {served.host}"], seconds=20)[0], 200)
+    for one in idle:
+        one.close()
+
+
 def the_page_is_small(page):
     served, size = page.served, 0
-    for path in ("", "app.js", "commands.js", "editor.js", "examples.js", "world.js", "style.css"):
+    for path in ("", "app.js", "commands.js", "editor.js", "examples.js", "patch.js", "places.js", "texts.js", "values.js", "world.js",
+                 "style.css"):
         size += len(served.raw(f"GET /{path} HTTP/1.1", [f"Host: {served.host}"])[1].split("\r\n\r\n", 1)[1].encode())
     asked = page.value("performance.getEntriesByType('resource').map((one) => new URL(one.name).host)")
     equal(set(asked), {served.host})
@@ -150,7 +174,7 @@ def a_shared_counter_is_drawn(page):
     equal(page.value("document.querySelector('svg.world .cell').textContent.includes('1')"), True)
     equal(page.value("[...document.querySelectorAll('svg.world .name')].map((one) => one.textContent)"), ["count", "up", "down"])
     equal(page.value("[...document.querySelectorAll('#variables .changed th')].map((one) => one.textContent)"), ["down", "up", "count"])
-    page.picture("counter.png", 1280, 800)
+    page.picture("counter.png", 1280, 610)
 
 
 def breakpoints_stop(page):
@@ -197,7 +221,7 @@ def loops_are_loops(page):
     page.example(1)
     page.click("run")
     equal((page.count("svg.world .cell"), page.count("svg.world .arrow"), page.count("svg.world .loop")), (1, 3, 1))
-    page.picture("loop-400.png", 400, 1250)
+    page.picture("loop-400.png", 400, 980)
 
 
 def keys_are_enough(page):
@@ -213,13 +237,14 @@ def keys_are_enough(page):
     page.idle()
     for name, number, line in (("F2", 113, 2), ("F2", 113, 3), ("F10", 121, 4), ("F2", 113, 2), ("F4", 115, 4)):
         key(name, number=number)
-        page.browser.wait(f"document.querySelector('#gutter .now')?.textContent === '{line}' && !document.getElementById('run').disabled")
+        page.browser.wait(f"document.querySelector('#gutter .now')?.textContent === '{line}' && document.body.dataset.busy === 'false'")
     boxes = page.count("svg.world text")
     for _ in range(40):
         key("Tab", number=9)
         if page.value("document.activeElement.classList.contains('fold')"):
             break
     key("Enter", number=13, text="\r")
+    page.idle()
     equal(page.count("svg.world text") > boxes, True)
     equal(page.value("document.activeElement.classList.contains('fold')"), True)
 
@@ -250,17 +275,54 @@ def texts_stay_texts(page):
 
 
 def steps_are_fast(page):
-    page.write(LARGE)
-    page.value("document.querySelector('#gutter [data-line=\"2\"]').click()")
+    # (the machine may be busy with other work: the best of some rounds counts)
+    middles, bytes_of_steps = [], []
+    for _ in range(ROUNDS):
+        page.write(LARGE)
+        page.value("document.querySelector('#gutter [data-line=\"2\"]').click()")
+        page.click("run")
+        equal((page.line(), int(page.text("count").split()[0]) >= 10_000), (2, True))
+        page.value("performance.clearResourceTimings()")
+        times = sorted(page.value(STEP) for _ in range(11))
+        bytes_of_steps += page.value("performance.getEntriesByType('resource').map((one) => one.encodedBodySize)")
+        middles.append(times[5])
+        if times[5] <= 50:
+            break
+    print(f"  a step over {page.text('count')}: drawn after {middles[-1]:.1f} ms in the middle of 11, with {max(bytes_of_steps)} bytes"
+          f" (middles of all rounds: {', '.join(f'{one:.1f}' for one in middles)})")
+    equal((min(middles) <= 50, len(bytes_of_steps), 0 < max(bytes_of_steps) <= 8_000), (True, 11 * len(middles), True))
+
+
+def unfolded_values_are_asked_for(page):
+    page.write("let deep = #{rows: []};\nfor n in 0..100 { deep.rows.push([n]); }\nlet f = |x| { deep.rows[50] += x; };\nf.call(1);")
     page.click("run")
-    equal((page.line(), int(page.text("count").split()[0]) >= 10_000), (2, True))
-    times = []
-    for _ in range(12):
-        page.click("into")
-        times.append(float(page.value("document.body.dataset.took")))
-    times.sort()
-    print(f"  a step over {page.text('count')}: {times[0]} ms at best, {times[6]} ms in the middle")
-    equal(times[0] <= 50, True)
+    unfold = "document.querySelector('svg.world .fold').dispatchEvent(new MouseEvent('click', {bubbles: true}))"
+    shown = page.count("svg.world text")
+    equal(page.value("document.querySelector('svg.world .fold').textContent"), ".. 94 more")
+    page.value(unfold)
+    page.idle()
+    equal((page.count("svg.world text") - shown, page.value("document.querySelector('svg.world .fold').textContent")), (188, "fold"))
+    equal(page.value("[...document.querySelectorAll('svg.world text')].some((one) => one.textContent === '[50, 1]')"), True)
+    page.value(unfold)
+    equal(page.count("svg.world text"), shown)
+
+
+def an_error_has_the_values_before_it(page):
+    page.write("fn part(list, at) {\n  let sum = list[0];\n  sum += list[at]; sum\n}\nlet list = [7, 8];\nlet see = || list;\nprint(1);\npart(list, 2);")
+    page.click("run")
+    equal(("out of range" in page.text("error"), page.text("printed"), page.text("step").endswith(": error")), (True, "1", True))
+    equal(page.value("[...document.querySelectorAll('#calls button')].map((one) => one.textContent)"), ["part, line 3", "the script, line 8"])
+    equal(page.value("[...document.querySelectorAll('#variables tr')].map((one) => one.textContent)"), ["sum7", "at2", "list[7, 8]"])
+    names = page.value("[...document.querySelectorAll('svg.world .name')].map((one) => one.textContent)")
+    equal((names, page.count("svg.world .cell")), (["list", "at", "sum", "list", "see"], 1))
+    last = page.text("step")
+    page.click("back")
+    equal((page.line(), page.text("error"), page.text("printed")), (3, "", "1"))
+    page.click("into")
+    equal((page.text("step"), "out of range" in page.text("error")), (last, True))
+    page.write("let n = 0;\nloop { n += 1; }")
+    page.click("run")
+    equal(("too many operations" in page.text("error"), page.count("svg.world .name")), (True, 1))
 
 
 def commands_have_answers(page):
@@ -297,9 +359,10 @@ def nothing_was_complained_about(page):
     equal(wrong, [])
 
 
-TESTS = [the_page_alone_may_call, the_page_is_small, a_shared_counter_is_drawn, breakpoints_stop, steps_go_back, errors_are_underlined, loops_are_loops,
-         keys_are_enough, endless_scripts_are_stopped, texts_stay_texts, steps_are_fast, commands_have_answers, nothing_runs_unasked,
-         nothing_was_complained_about]
+TESTS = [the_page_alone_may_call, no_connection_waits_for_another, the_page_is_small, a_shared_counter_is_drawn, breakpoints_stop,
+         steps_go_back, errors_are_underlined, loops_are_loops, keys_are_enough, endless_scripts_are_stopped, texts_stay_texts,
+         steps_are_fast, unfolded_values_are_asked_for, an_error_has_the_values_before_it, commands_have_answers,
+         nothing_runs_unasked, nothing_was_complained_about]
 
 
 def main():

@@ -1,8 +1,8 @@
 //! Random single calls, answered by the port's program and by the released files.
 //!
-//! Usage: calls PROGRAM PAGE COUNT SEED. PROGRAM is `crates/bench_calls`, built; PAGE is docs/PORTING.md. The exit status is 1 where a
-//! difference isn't a departure of that page, where a departure or the row of an operator was met too seldom, and where the program ends
-//! with another status than 0.
+//! Usage: calls PROGRAM PAGE COUNT SEED. PROGRAM is `beside/crates/bench_calls`, built; PAGE is docs/PORTING.md. The exit status is 1 if a
+//! difference isn't a departure on that page, if a departure or an operator's row was met too rarely, or if the program ends with a
+//! status other than 0.
 
 use compare::child::Port;
 use compare::departures::{key, shown, unknown, unlisted, Departure, Tally};
@@ -15,13 +15,13 @@ use std::collections::{BTreeMap, BTreeSet};
 use std::sync::atomic::{AtomicU64, Ordering};
 use std::thread;
 
-/// A run is made of so many pieces, each with its own dice, whatever the number of threads.
+/// A run has this many pieces, each with its own dice, whatever the number of threads.
 const PIECES: u64 = 64;
 
-/// Recipes that go to the port at once.
+/// How many recipes are sent to the port at once.
 const BATCH: usize = 400;
 
-/// How often each row and each departure is to be met in a run of 200000 calls; in a shorter run in proportion.
+/// How often each row and each departure must be met in a run of 200000 calls; proportionally in a shorter run.
 const ROW_LEAST: u64 = 1000;
 const DEPARTURE_LEAST: u64 = 100;
 const WHOLE: u64 = 200_000;
@@ -44,7 +44,7 @@ fn first_apart(a: &str, b: &str) -> String {
     }
 }
 
-/// The port has to answer as the release does with the departures in their places, whether or not the release itself answers so too.
+/// The port must answer like the release with the departures put in, whether or not the release itself does.
 fn compared(r: &Recipe, ours: &str) -> Found {
     let (raw, _) = release::answer(r, false);
     let (ruled, why) = release::answer(r, true);
@@ -60,11 +60,11 @@ fn compared(r: &Recipe, ours: &str) -> Found {
     Found::Listed(shown(&why, &raw, &ruled))
 }
 
-/// Why a recipe is asked.
+/// The purpose of a recipe.
 #[derive(Clone, Copy)]
 enum Aim {
     Any(Kind),
-    /// The row at a place of the list.
+    /// The row at an index of the list.
     Row(usize),
     Departure(Departure),
 }
@@ -82,7 +82,7 @@ impl Aim {
 /// What was met.
 #[derive(Default)]
 struct Met {
-    /// Calls of each kind, and how many were answered as the release itself does.
+    /// Calls of each kind, and how many got the same answer from the release itself.
     calls: BTreeMap<String, (u64, u64)>,
     /// Kinds of the two operands.
     pairs: BTreeMap<(&'static str, &'static str), u64>,
@@ -91,7 +91,7 @@ struct Met {
     departures: Tally,
     /// Differences that no departure explains, by the line at which they begin, each with its smallest recipe.
     new: BTreeMap<(String, String), (u64, Recipe)>,
-    /// Statuses other than 0 with which the port's program ended.
+    /// The exit statuses of the port's program other than 0.
     ends: Vec<String>,
 }
 
@@ -133,14 +133,14 @@ impl Met {
     }
 }
 
-/// The aims of one piece of a run, which has its part of all calls: so many of each kind, each row, and each departure.
+/// The purposes of the calls in one piece of a run: its share of each kind, each row and each departure.
 fn aims(count: u64, rows: usize) -> Vec<Aim> {
     let mut aims = Vec::new();
     for kind in Kind::ALL {
         let calls = (count * kind.share()).div_ceil(Kind::shares());
         aims.extend(std::iter::repeat_n(Aim::Any(*kind), calls as usize));
     }
-    // An eighth more than is asked for, since some recipes meet nothing.
+    // An eighth more than required, since some recipes meet nothing.
     let times = |least: u64| (count * least * 9).div_ceil(WHOLE * 8) as usize;
     for row in 0..rows {
         aims.extend(std::iter::repeat_n(Aim::Row(row), times(ROW_LEAST)));
@@ -189,7 +189,7 @@ fn run(program: &str, count: u64, seed: u64) -> Met {
     met
 }
 
-/// Prints the smallest recipe that differs in this way, and what both sides make of it.
+/// Prints the smallest recipe that differs in this way, and both answers.
 fn show_new(port: &mut Port, (kind, at): &(String, String), times: u64, r: &Recipe) {
     let small = shrink::shrink(r.clone(), &mut |all: &[Recipe]| {
         let answers = port.ask(all);
@@ -200,7 +200,7 @@ fn show_new(port: &mut Port, (kind, at): &(String, String), times: u64, r: &Reci
     println!("{}--- the release with the departures\n{}", release::answer(&small, false).0, release::answer(&small, true).0);
 }
 
-/// Prints how often each row was met; answers how many were met fewer times than that.
+/// Prints how often each row was met; returns how many were met fewer times than that.
 fn report_rows(met: &Met, least: u64) -> usize {
     let rows = rows();
     let count = |at: usize| met.rows.get(&at).copied().unwrap_or_default();

@@ -1,8 +1,8 @@
 //! Random programs of commands, by the port's program and by the machine over the released files.
 //!
-//! Usage: programs PROGRAM PAGE COUNT SEED. PROGRAM is `crates/rhai_world`, built, which answers a line to each line; PAGE is docs/PORTING.md.
-//! The exit status is 1 where an answer differs, where the program ends with another status than 0, where there were too few worlds with
-//! many entries or marks, and where a departure that was put in has no row on that page. Up to a hundred programs that differ are told.
+//! Usage: programs PROGRAM PAGE COUNT SEED. PROGRAM is `crates/rhai_world`, built, which answers each line with a line; PAGE is docs/PORTING.md.
+//! The exit status is 1 if an answer differs, if the program ends with a status other than 0, if there were too few worlds with many
+//! entries or marks, or if a departure that was put in has no row on that page. At most a hundred programs that differ are printed.
 
 use compare::departures::{unlisted, Tally};
 use compare::dice::Dice;
@@ -16,20 +16,20 @@ use std::process::{Command as Process, Stdio};
 use std::sync::atomic::{AtomicU64, AtomicUsize, Ordering};
 use std::thread;
 
-/// A run is made of so many pieces, each with its own dice, whatever the number of threads.
+/// A run has this many pieces, each with its own dice, whatever the number of threads.
 const PIECES: u64 = 64;
 
-/// About as many commands are answered by one process of the port, world after world.
+/// About how many commands one process of the port answers, world after world.
 const BATCH: usize = 20_000;
 
-/// How many worlds of each kind that is asked for there have to be in a run of 200000 commands; in a shorter run in proportion.
+/// How many worlds of each required kind a run of 200000 commands must have; proportionally fewer in a shorter run.
 const WORLDS_LEAST: u64 = 20;
 const WHOLE: u64 = 200_000;
 
-/// So many programs that differ are told.
+/// At most this many programs that differ are printed.
 const MOST_TOLD: usize = 100;
 
-/// So many shorter programs are tried for each of them.
+/// How many shorter programs are tried for each of them.
 const SHORTER: usize = 400;
 
 /// How many programs that differ were found.
@@ -47,7 +47,7 @@ struct Met {
     out_of_order: u64,
     departures: Tally,
     left_out: BTreeMap<LeftOut, u64>,
-    /// Programs whose answers differ, made short, each with what differs.
+    /// Programs whose answers differ, shortened, each with the difference.
     new: Vec<(Vec<Command>, String)>,
 }
 
@@ -65,7 +65,7 @@ impl Met {
     }
 }
 
-/// The port's answers to lines, all together; and how it ended, where that isn't with status 0.
+/// The port's answers to lines, in one text; and how it ended, unless with status 0.
 fn port_answers(program: &str, lines: &str) -> (Vec<u8>, Option<String>) {
     let process = Process::new(program).stdin(Stdio::piped()).stdout(Stdio::piped()).stderr(Stdio::null()).spawn();
     let mut process = process.expect("the port's program");
@@ -94,7 +94,7 @@ fn first_apart(answers: &[String], mut given: &[u8]) -> Option<(usize, String)> 
     (!given.is_empty()).then(|| (answers.len(), "the port says more".into()))
 }
 
-/// What differs, in the answers or else in how the port ends.
+/// The difference: in the answers, or else in how the port ends.
 fn apart(program: &str, commands: &[Command], answers: &[String]) -> Option<(usize, String)> {
     let (given, end) = port_answers(program, &lines_of(commands));
     first_apart(answers, &given).or_else(|| end.map(|end| (answers.len(), end)))
@@ -112,7 +112,7 @@ fn lines_of(commands: &[Command]) -> String {
     commands.iter().map(|command| format!("{}\n", spelled(command))).collect()
 }
 
-/// The line of a command; nothing stands behind the verb for an empty text.
+/// The line of a command; for an empty text nothing follows the verb.
 fn spelled(command: &Command) -> String {
     let line = command.to_string();
     if line == "text " {
@@ -122,7 +122,7 @@ fn spelled(command: &Command) -> String {
     }
 }
 
-/// What differs on a new world, where something does and the release can do all.
+/// The difference on a new world, if there is one and the release can execute all commands.
 fn differs(program: &str, commands: &[Command]) -> Option<(usize, String)> {
     let mut world = World::default();
     let answers: Vec<String> = commands.iter().map(|command| answer(&mut world, command)).collect::<Result<_, _>>().ok()?;
@@ -150,7 +150,7 @@ fn shrunk(program: &str, mut commands: Vec<Command>) -> (Vec<Command>, String) {
     (commands, how)
 }
 
-/// Commands for worlds one after another, and their answers; and where each world begins.
+/// Commands for consecutive worlds, their answers, and where each world begins.
 struct Batch {
     commands: Vec<Command>,
     answers: Vec<String>,
@@ -207,7 +207,7 @@ impl Batch {
         batch
     }
 
-    /// Keeps each program that differs, made short: behind it the worlds that are left go on by a process of their own.
+    /// Keeps each program that differs, shortened: another process then runs the worlds after it.
     fn compare(&self, program: &str, met: &mut Met) {
         let mut start = 0;
         while start < self.commands.len() {
@@ -256,7 +256,7 @@ fn run(program: &str, count: u64, seed: u64) -> Met {
     met
 }
 
-/// Prints how many worlds were of each kind that is asked for; answers how many kinds there were too few of.
+/// Prints how many worlds there were of each required kind; returns how many kinds had too few.
 fn report_worlds(met: &Met, least: u64) -> usize {
     let kinds = [("two hundred entries", met.wide), ("four marks", met.marked), ("a release out of order", met.out_of_order)];
     for (what, count) in kinds {

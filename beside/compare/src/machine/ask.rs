@@ -1,4 +1,4 @@
-//! Commands that tell of a value.
+//! Commands that report on a value.
 
 use super::command::{Command, Kind, Question};
 use super::kinds::{for_kind, Id, IsOf};
@@ -63,7 +63,7 @@ impl World {
         })
     }
 
-    /// What a typed question answers, asked of what is held.
+    /// The answer to a typed question about the held value.
     fn typed<T>(&mut self, v: &Dynamic, ask: impl FnOnce(&Dynamic) -> Result<T, &'static str>) -> Result<T, Stop> {
         let Some(inner) = self.desk.inner(v) else { return mismatch("<shared>") };
         match ask(&inner) {

@@ -1,4 +1,4 @@
-//! Commands, and the lines that say them: docs/LINES.md has each form.
+//! Commands, and their lines: docs/LINES.md has each form.
 
 use rhai::Token;
 use std::fmt;

@@ -75,7 +75,7 @@ impl World {
         }
     }
 
-    /// Takes an entry out. A holder's value is a copy of what is held, where the release takes the content of a last one.
+    /// Removes an entry. For a holder returns a copy of the held value, where the release takes the content of a last holder.
     fn remove(&mut self, name: &str, kind: Kind) -> Done {
         let v = self.entry(name)?.clone();
         if !v.is_shared() {

@@ -1,4 +1,4 @@
-//! Types that are known when a command is done.
+//! Types that are known when a command is executed.
 
 use super::command::{Host, Kind};
 use crate::ends::cast_here;

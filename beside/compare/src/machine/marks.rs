@@ -6,19 +6,19 @@ use crate::dump::cell_of;
 use rhai::{hooks, Dynamic, Locked, Shared, Union};
 use std::cell::RefMut;
 
-/// The mark of a cell: a borrow for writing, which keeps the cell. (The guard stands first, so that it goes first.)
+/// The mark of a cell: a mutable borrow, which keeps the cell. (The guard is the first field, so that it is dropped first.)
 pub struct Mark {
     guard: RefMut<'static, Dynamic>,
     cell: Shared<Locked<Dynamic>>,
 }
 
 impl Mark {
-    /// Marks the cell of a holder; nothing where it is marked.
+    /// Marks the cell of a holder; `None` if it is marked.
     fn of(holder: &Dynamic) -> Option<Self> {
         let Union::Shared(cell, ..) = hooks::union(holder) else { return None };
         let cell = cell.clone();
         let guard = cell.try_borrow_mut().ok()?;
-        // SAFETY: the guard leads to what is behind the count, which doesn't move, and lives until `cell` goes, which is after the guard.
+        // SAFETY: the guard points into the counted block, which doesn't move, and lives until `cell` is dropped, after the guard.
         let guard = unsafe { std::mem::transmute::<RefMut<'_, Dynamic>, RefMut<'static, Dynamic>>(guard) };
         Some(Self { guard, cell })
     }
@@ -29,7 +29,7 @@ impl Mark {
 }
 
 impl World {
-    /// Whether a chain of holders comes to a cell.
+    /// Whether a chain of holders reaches a cell.
     pub(super) fn comes_to(&self, v: &Dynamic, cell: *const ()) -> bool {
         let Union::Shared(own, ..) = hooks::union(v) else { return false };
         let place = cell_of(v).expect("a holder");

@@ -1,4 +1,4 @@
-//! The machine of commands as a Rust programmer writes it over the released files, with the departures of the port in their places.
+//! The machine of commands as a Rust programmer would write it over the released files, with the port's departures put in.
 
 mod ask;
 mod change;
@@ -19,13 +19,13 @@ use std::collections::BTreeSet;
 /// What the release can't do, or what would take too long to compare.
 #[derive(Clone, Copy, Debug, PartialEq, Eq, PartialOrd, Ord)]
 pub enum LeftOut {
-    /// A loop of holders alone, on which typed questions of the release don't end.
+    /// A loop of holders alone, on which the release's typed questions don't return.
     LoopOfHolders,
-    /// A value of thousands of parts, counted as often as it would be printed.
+    /// A value of thousands of parts, each counted as often as it would be printed.
     LargeValue,
 }
 
-/// Why a command is not done.
+/// Why a command isn't executed.
 pub enum Stop {
     Refused(String),
     LeftOut(LeftOut),
@@ -55,7 +55,7 @@ fn fault<T>(error: &ERR) -> Result<T, Stop> {
     }))
 }
 
-/// Where a value stands that a command writes to.
+/// The place of a value that a command writes to.
 enum Slot {
     Hand(usize),
     Entry(String),
@@ -115,14 +115,14 @@ impl World {
         (self.hand.len(), self.scope.len(), self.marks.len())
     }
 
-    /// The name of what is held at a position of the hand, as far as it can be told.
+    /// The name of the type that is held at a hand position, if it can be determined.
     #[must_use]
     pub fn kind_at(&self, i: usize) -> &'static str {
         let held = self.hand.get(i).map(crate::ends::flat);
         held.filter(|held| !held.is_shared()).map_or("", |held| held.type_name())
     }
 
-    /// Whether a holder stands at a position of the hand.
+    /// Whether there is a holder at a hand position.
     #[must_use]
     pub fn is_holder(&self, i: usize) -> bool {
         self.hand.get(i).is_some_and(Dynamic::is_shared)
@@ -137,7 +137,7 @@ impl World {
         self.hand.get(i).map_or_else(|| refused("NoValue"), Ok)
     }
 
-    /// Takes so many last values out of the hand.
+    /// Takes this many last values out of the hand.
     fn last(&mut self, count: usize) -> Result<Vec<Dynamic>, Stop> {
         let Some(start) = self.hand.len().checked_sub(count) else { return refused("NoValue") };
         fit(&self.hand[start..])?;
@@ -214,7 +214,7 @@ impl World {
         calc_index(length, index, from_end).map_or_else(|| line("none"), line)
     }
 
-    /// Does a command. One that is refused or left out changes nothing.
+    /// Executes a command. One that is refused or left out changes nothing.
     pub fn apply(&mut self, command: &Command) -> Done {
         match command {
             Command::Put(literal) => self.put(literal),

@@ -83,7 +83,7 @@ impl Desk {
         let made = if self.adapt {
             cast_here::<T>(&flat(x))
         } else {
-            // It panics exactly where another type is held.
+            // It panics exactly if another type is held.
             guarded(|| x.clone_cast::<T>()).map(Dynamic::from)
         };
         self.say("clone_cast", told(made));

@@ -1,11 +1,11 @@
-//! Calls on what a value holds at the end of its chain, which the release has not: what they come to by the cells.
+//! Calls on the value at the end of a chain, which the release lacks: their results by the cells.
 
 use super::Desk;
 use crate::ends::{end, End};
 use rhai::{hooks, Dynamic, Union};
 
 impl Desk {
-    /// What is held; nothing where the chain is stuck.
+    /// The held value; `None` if the chain is stuck.
     fn say_held(&mut self, x: &Dynamic) {
         match end(x) {
             End::Own => self.say_value("held", x),
@@ -17,7 +17,7 @@ impl Desk {
         }
     }
 
-    /// Marks the cell of what is held, says what is seen meanwhile, and writes the second value into the cell where that is asked.
+    /// Marks the cell of the held value, reports what can be read meanwhile, and writes the second value into the cell if required.
     fn marked(&mut self, x: &Dynamic, y: &mut Dynamic, writes: bool) {
         let End::Held(holder) = end(x) else { return self.say("marked", "none") };
         let Union::Shared(cell, ..) = hooks::union(&holder) else { unreachable!("a holder") };

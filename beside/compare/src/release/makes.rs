@@ -50,7 +50,7 @@ impl ForType for MadeOf<'_> {
 }
 
 impl Desk {
-    /// Says the entries of a map as they are moved out.
+    /// Reports the entries of a map as they are moved out.
     fn say_moved(&mut self, x: &Dynamic) {
         let Some(map) = flat(x).try_cast::<Map>() else { return self.say("moved", "none") };
         for (key, v) in map {

@@ -1,4 +1,4 @@
-//! What calls of the release make of a recipe: as they are, or with the departures of the port put in their place (`adapt`).
+//! The release's answers to a recipe: as they are, or with the port's departures put in (`adapt`).
 
 pub(crate) mod casts;
 mod holds;
@@ -124,12 +124,12 @@ impl Desk {
     fn say_value(&mut self, key: &str, v: &Dynamic) {
         self.say(key, dumped(v));
     }
-    /// Says a value, and keeps it to be looked at once more.
+    /// Reports a value, and keeps it to be printed again.
     fn say_kept(&mut self, key: &str, v: Dynamic) {
         self.say_value(key, &v);
         self.last = v;
     }
-    /// Says what a closure answers, or that it panics.
+    /// Reports what a closure returns, or that it panics.
     fn ask<T: std::fmt::Display>(&mut self, key: &str, f: impl FnOnce() -> T) {
         match guarded(f) {
             Some(t) => self.say(key, t),
@@ -172,7 +172,7 @@ impl Desk {
     }
 }
 
-/// The answers to a recipe, and the departures that were put in where asked for.
+/// The answers to a recipe, and the departures that were put in, if requested.
 pub fn answer(r: &Recipe, adapt: bool) -> (String, BTreeSet<Departure>) {
     let mut desk = Desk::new(adapt);
     let mut x = desk.value(&r.x);
@@ -227,7 +227,7 @@ pub fn answer(r: &Recipe, adapt: bool) -> (String, BTreeSet<Departure>) {
             let v = desk.cells[k].clone();
             desk.say_value("cell", &v);
         }
-        // The contents are tagged anew, which tells which cells holders have.
+        // The contents get new tags, which identify the cells of holders.
         for (k, holder) in desk.cells.iter().enumerate() {
             let Union::Shared(cell, ..) = hooks::union(holder) else { unreachable!() };
             if let Ok(mut content) = cell.try_borrow_mut() {

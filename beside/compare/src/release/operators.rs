@@ -44,11 +44,11 @@ const TOKENS: [Token; 31] = [
     Token::XOrAssign,
 ];
 
-/// What came of an operator or an assignment.
+/// The outcome of an operator or an assignment.
 pub(crate) enum Operated {
     LookUpPanics,
     NoRow,
-    /// Whether the row wants a context, and what its call answered; nothing where it panics.
+    /// Whether the row needs a context, and the result of its call; `None` if that panics.
     Row(bool, Option<Result<Dynamic, rhai::RhaiError>>),
 }
 
@@ -59,7 +59,7 @@ pub fn token(number: u8) -> Token {
 }
 
 impl Desk {
-    /// The row of an operator or an assignment; nothing where the look-up panics.
+    /// The row of an operator or an assignment; `None` if the look-up panics.
     fn look_up(&mut self, binary: bool, token: Token, x: &Dynamic, y: &Dynamic) -> Option<Option<FnBuiltin>> {
         if self.adapt && binary && (matches!(end(x), End::Stuck(_)) || matches!(end(y), End::Stuck(_))) {
             self.depart(Departure::BorrowedLookUp);
@@ -162,7 +162,7 @@ impl Desk {
         Operated::Row(f.1, result)
     }
 
-    /// What an operator answers on two values by the port's rules.
+    /// The result of an operator on two values by the port's rules.
     pub(crate) fn operated(&mut self, token: Token, x: &mut Dynamic, y: &mut Dynamic) -> Operated {
         if let Some(operated) = self.of_two_ranges(token, x, y) {
             return operated;
@@ -174,7 +174,7 @@ impl Desk {
         }
     }
 
-    /// What an assignment answers by the port's rules, looked up for the first content of the first operand.
+    /// The result of an assignment by the port's rules, looked up for the first content of the first operand.
     pub(crate) fn assigned(&mut self, token: Token, first: &Dynamic, x: &mut Dynamic, y: &mut Dynamic) -> Operated {
         match self.look_up(false, token, first, y) {
             None => Operated::LookUpPanics,
@@ -266,7 +266,7 @@ impl Assignment {
         matches!(self.both().0, Union::Array(..)) && !matches!(self.both().1, Union::Array(..))
     }
 
-    /// Whether tag and mode of what is written stay, where the release replaces the whole value.
+    /// Whether the written value keeps tag and mode, where the release replaces the whole value.
     fn keeps_label(&self) -> bool {
         use Token::{DivideAssign, MinusAssign, ModuloAssign, MultiplyAssign, PlusAssign, PowerOfAssign};
         let is_arithmetic =

@@ -6,7 +6,7 @@ use crate::ends::{flat, meets_twice};
 use crate::printed::{printed_by_rule, Form};
 use rhai::{hooks, Dynamic, Position, Target, Union, ERR};
 
-/// The place of each call that wants one.
+/// The position for each call that needs one.
 const PLACE: Position = Position::new(3, 4);
 
 /// A part of a value: a bit, bits of a mask, a byte, a character or a slice of characters, by two numbers.
@@ -18,7 +18,7 @@ pub(crate) struct Piece {
     pub exclusive: bool,
 }
 
-/// What came of writing a part back.
+/// The outcome of writing a part back.
 pub(crate) enum Written {
     NoPart,
     Panics,

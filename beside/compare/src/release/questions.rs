@@ -62,7 +62,7 @@ impl Desk {
         });
     }
 
-    /// Says the hash bytes of a value, of which the release has none.
+    /// Reports the hash bytes of a value, which the release doesn't have.
     fn say_hash(&mut self, key: &str, v: &Dynamic, is_hashable: bool) {
         let bytes = if is_hashable { hash::of_value(v) } else { "none".into() };
         self.say(key, bytes);

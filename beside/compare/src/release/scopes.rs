@@ -135,7 +135,7 @@ impl Desk {
         }
     }
 
-    /// Says an entry: its name, value and aliases.
+    /// Reports an entry: its name, value and aliases.
     fn say_entry(&mut self, key: &str, name: &str, v: &Dynamic, aliases: &[ImmutableString]) {
         let mut out = String::new();
         quote(name, &mut out);

@@ -1,4 +1,4 @@
-//! No map: the keys' blocks are taken and given back, and nothing is sought. What a map takes above this is its own.
+//! No map: only the keys' blocks are allocated and freed. What a map takes beyond this is its own cost.
 
 use super::Keyed;
 use crate::value::Value;

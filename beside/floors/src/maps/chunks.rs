@@ -1,11 +1,11 @@
-//! Sorted chunks with the values in them, and the first key of each chunk beside: two searches, however many keys there are.
+//! Sorted chunks that contain the values, and a list of each chunk's first key: two searches, however many keys there are.
 
 use super::front::{front_of, place_in, Key};
 use super::Keyed;
 use crate::value::Value;
 
-/// How many keys a chunk has at the most: its blocks are below 1,024 bytes, since the C library joins its short free blocks where a longer
-/// one is asked for.
+/// The most keys of a chunk: its blocks are below 1,024 bytes, since the C library joins its short free blocks when a longer one is
+/// allocated.
 const MOST: usize = 16;
 
 /// Keys in order, and the values in the same order.

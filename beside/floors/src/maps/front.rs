@@ -1,8 +1,8 @@
-//! Keys with their first eight bytes beside, which tell most keys apart without a look at their blocks.
+//! Keys with a copy of their first eight bytes, which distinguish most keys without reading their blocks.
 
 use std::cmp::Ordering;
 
-/// The first eight bytes as a number, which stands as the bytes do.
+/// The first eight bytes as a number, ordered like the bytes.
 #[inline(always)]
 pub fn front_of(text: &[u8]) -> u64 {
     if let Some(first) = text.first_chunk::<8>() {
@@ -30,7 +30,7 @@ impl Key {
     }
 }
 
-/// Where a key stands in a sorted list, or where it would.
+/// The index of a key in a sorted list, or where it would be.
 #[inline(always)]
 pub fn place_in(keys: &[Key], front: u64, text: &str) -> Result<usize, usize> {
     let mut place = keys.partition_point(|key| key.front < front);

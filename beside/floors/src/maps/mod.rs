@@ -1,5 +1,5 @@
-//! Maps whose keys are strings with blocks of their own, since `pop_first` hands one out without memory, and whose values have 48 bytes.
-//! `insert` hands key and value back where memory is refused; `get`, `remove` and walks take none.
+//! Maps whose keys are strings with blocks of their own, since `pop_first` returns one without allocating, and whose values have 48
+//! bytes. `insert` returns key and value if an allocation fails; `get`, `remove` and walks allocate nothing.
 
 mod blocks;
 mod chunks;

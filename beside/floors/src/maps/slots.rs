@@ -158,7 +158,7 @@ impl<I: Index> Keyed for Slots<I> {
         self.index.entries().filter_map(|(key, number)| Some((key, value_in(self.slots.get(number))?)))
     }
 
-    /// The keys first: the C library joins its short free blocks where one of 1,024 bytes or more is asked for, as that of the slots.
+    /// The keys first: the C library joins its short free blocks when one of 1,024 bytes or more is allocated, as that of the slots.
     fn copied(&self) -> Option<Self> {
         let index = self.index.clone();
         let mut slots = Vec::new();

@@ -14,7 +14,7 @@ struct Entry {
 pub struct Sorted<const FIRST: usize>(Vec<Entry>);
 
 impl<const FIRST: usize> Sorted<FIRST> {
-    /// Where a key stands, or where it would.
+    /// The index of a key, or where it would be.
     #[inline(always)]
     fn place(&self, front: u64, text: &str) -> Result<usize, usize> {
         let mut place = self.0.partition_point(|entry| entry.key.front < front);

@@ -20,7 +20,7 @@ const ROWS: [(&str, u64); 5] = [
 
 const HOST_SIDES: [&str; 2] = ["methods", "commands"];
 
-/// What so many rounds take from Rust, and their checksum.
+/// The time of this many rounds from Rust, and their checksum.
 fn from_rust(program: &Path, side: &str, kind: u32, rounds: usize) -> (u64, u64) {
     let output = Command::new(program).args(["time", side, &kind.to_string(), &rounds.to_string()]).output().expect("host_times");
     let said = String::from_utf8(output.stdout).expect("numbers");

@@ -9,7 +9,7 @@ use times::page::with_part;
 
 const TURNS: usize = 7;
 
-/// The scripts, what each does, and how many times Lua's time it may take.
+/// The scripts, what each does, and its goal as a multiple of Lua's time.
 const SCRIPTS: [(&str, &str, &str); 12] = [
     ("fib", "`fib(27)`", "3"),
     ("sort", "Shell's sort, 50,000", "3"),

@@ -1,6 +1,7 @@
 //! Measures the rows of docs/SPEED.md, prints them, and writes its tables.
 //!
-//! Usage: times PAGE TURNS TABLES [PART]: so many tables of so many turns each; with PART the rows whose names have it, and the page stays.
+//! Usage: times PAGE TURNS TABLES [PART]: TABLES tables of TURNS turns each; with PART only the rows whose names contain it, and the
+//! page is unchanged.
 
 use std::fmt::Write as _;
 use std::thread;
@@ -20,7 +21,7 @@ const OTHER_ALGORITHM: [&str; 8] = [
     "text_with_char_1000",
 ];
 
-/// What the tables say of a row: the ratio of each, and the least times.
+/// What the tables have for a row: the ratio in each, and the least times.
 struct Told {
     name: &'static str,
     ratios: Vec<f64>,
@@ -82,7 +83,7 @@ fn count(rows: &[&'static Row], told: &mut [Told]) {
     }
 }
 
-/// By how much a row's ratio moves from one table to another: the mean of the greatest over the least.
+/// How much a row's ratio varies between tables: the mean of the greatest over the least.
 fn spread(told: &[Told]) -> f64 {
     let moves = |row: &Told| {
         let greatest = row.ratios.iter().copied().fold(0.0, f64::max);
@@ -91,7 +92,7 @@ fn spread(told: &[Told]) -> f64 {
     mean(&told.iter().map(moves).collect::<Vec<_>>())
 }
 
-/// The ratio that a row had before, which its row on the page says.
+/// The ratio that a row had before, from its row on the page.
 fn before(page: &str, name: &str) -> Option<f64> {
     rows_of(page).get(name).and_then(|cells| cells.get(1)).and_then(|cell| cell.parse().ok())
 }

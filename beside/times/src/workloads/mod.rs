@@ -1,4 +1,4 @@
-//! The workloads over rhai's own values. Each mirrors the function of its name in `crates/bench_times`.
+//! The workloads over rhai's own values. Each mirrors the function of its name in `beside/crates/bench_times`.
 
 mod arrays;
 mod given;

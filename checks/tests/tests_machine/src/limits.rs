@@ -12,6 +12,7 @@ fn limited(operations: u64, output: u64) -> RunLimits {
         sizes: LIMITS.sizes,
         entries: LIMITS.entries,
         output,
+        memory: 0,
         operations,
         calls: LIMITS.calls,
     }
@@ -76,7 +77,8 @@ try { a.contains(2); a.contains(2); } catch { print(1); }
 print(2);
 ";
 
-/// The copies of `pad` and one search are 500 operations; the second search is past 700, and no `try` catches it.
+/// The copies of `pad` and one search are 500 operations; the second search is past 700, and no
+/// `try` catches it.
 fn is_not_caught(alloc: Global) -> Option<bool> {
     let told = "too many operations at 4:24";
     let ended = run_to_end(alloc, CAUGHT, &limited(700, 0), 50, told)?;

@@ -12,6 +12,7 @@ const LIMITS: ScriptLimits = ScriptLimits {
     },
     entries: 100,
     output: 100,
+    memory: 0,
     operations: 100,
     calls: 20,
 };
@@ -71,6 +72,7 @@ fn is_too_large(alloc: Global) -> Option<bool> {
         sizes: LIMITS.sizes,
         entries: LIMITS.entries,
         output: LIMITS.output,
+        memory: LIMITS.memory,
         operations: 10_000,
         calls: LIMITS.calls,
     };

@@ -11,6 +11,7 @@ const SMALL: RunLimits = RunLimits {
     sizes: Limits { text: 10, items: 5 },
     entries: 5,
     output: 0,
+    memory: 0,
     operations: u64::MAX,
     calls: 20,
 };

@@ -1,4 +1,5 @@
-// A box as its two parts.
+//! A box as its two parts.
+
 ghost use Rattle.std.specs.Prelude.{◌≡◌};
 ghost use Rattle.std.specs.Box.Ownership.{box_owns};
 

@@ -1,4 +1,4 @@
-// Open cells, if there are many.
+//! Open cells, if there are many.
 ghost use Rattle.std.specs.Prelude.{◌≡◌, ◌↔◌, ◌∷◌, [], drop, not, IfOk, OnErr, IsTrue, if◌then◌else◌};
 ghost use Rattle.rhai_value.specs.Walk.{is_open};
 

@@ -66,7 +66,8 @@ impl Store {
         }
     }
 
-    /// Borrows the content of the token's cell.
+    /// Borrows the content of the token's cell, which must be marked in this store: a token may be
+    /// carried to another one.
     /// Cost: constant; no memory.
     pub fn through(&self, t: &WriteToken) -> &Dynamic
         requires { is_marked_at self.now t.now ≡ true }
@@ -85,7 +86,8 @@ impl Store {
         self.content_mut(t.cell)
     }
 
-    /// Clears the mark of the token's cell, and consumes the token.
+    /// Clears the mark of the token's cell, which must be marked in this store, and consumes the
+    /// token.
     /// Cost: constant; no memory.
     pub fn release(&mut self, t: WriteToken)
         requires { is_marked_at self.old t ≡ true }

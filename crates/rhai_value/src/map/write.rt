@@ -8,7 +8,8 @@ ghost use Rattle.rhai_value.specs.Scan.{fields_scanned};
 use crate::map::{Chunk, Entry, Map, MapParts};
 use crate::value::dynamic::Dynamic;
 
-/// The callback of `Map::write_values`.
+/// The callback of `Map::write_values`: a closure, or a mutable iterator, would need far more
+/// proof.
 pub trait ValueWriter {
     ghost use Rattle.rhai_value.specs.Tree.{Tree};
 

@@ -1,4 +1,5 @@
-//! Work at a held value with access to the store.
+//! Work at a held value with access to the store. The content is moved out of its marked cell, and
+//! lent to a closure beside the store, so the closure needs no `requires` and no trait with a law.
 ghost use Rattle.std.specs.Prelude.{◌≡◌, [], true, None, Some, Err, IfSome, IfNone, is_some};
 ghost use Rattle.rhai_value.specs.End.{end, held_in};
 ghost use Rattle.rhai_value.specs.Places.{WorksAt, IsLent, put_back};

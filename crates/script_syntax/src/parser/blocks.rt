@@ -1,26 +1,33 @@
-// Blocks, and the statements that only blocks contain.
+//! Blocks, and the statements that only blocks contain.
 
-use super::Parser;
+use super::{Parser, Part};
 use crate::error::{SyntaxError, SyntaxFault};
 use crate::operators::LOOSEST;
 use crate::symbol::Symbol;
 use rhai_text::{ImmutableString, Position};
 use script_tree::{Arm, Block, Expr};
+use std::alloc::Global;
 
 impl Parser {
     /// Parses a block, with its statements at this level.
-    #[cycle(parse)]
-    pub(super) fn block(&mut self, levels: usize) -> Result<Block, SyntaxError> {
+    pub(super) fn block<P>(&mut self, levels: usize, parts: &P) -> Result<Block, SyntaxError>
+    where
+        P: Fn(&mut Parser, usize, Part) -> Option<Expr>,
+        requires { P.IsAlwaysCallable parts.now }
+    {
         self.expect(Symbol::OpenBrace)?;
-        let block = self.statements(levels)?;
+        let block = self.statements(levels, parts)?;
         self.expect(Symbol::CloseBrace)?;
         Ok(block)
     }
 
     /// Parses statements up to a brace or the end, and leaves that as the next lexeme. Their
     /// variables end there.
-    #[cycle(parse)]
-    pub(super) fn statements(&mut self, levels: usize) -> Result<Block, SyntaxError> {
+    pub(super) fn statements<P>(&mut self, levels: usize, parts: &P) -> Result<Block, SyntaxError>
+    where
+        P: Fn(&mut Parser, usize, Part) -> Option<Expr>,
+        requires { P.IsAlwaysCallable parts.now }
+    {
         let first_slot = self.names.count();
         let mut statements = Vec::new(self.alloc);
         let mut positions = Vec::new(self.alloc);
@@ -28,7 +35,7 @@ impl Parser {
             if self.is_next(Symbol::CloseBrace) || self.is_next(Symbol::End) {
                 break;
             }
-            self.terminated_statement(levels, &mut statements, &mut positions)?;
+            self.terminated_statement(levels, &mut statements, &mut positions, parts)?;
         }
         let end_slot = self.names.count();
         self.names.close(first_slot)?;
@@ -42,26 +49,35 @@ impl Parser {
 
     /// Parses a statement and its semicolon. The last statement of a block needs none, nor does one
     /// that ends with a block.
-    #[cycle(parse)]
-    pub(super) fn terminated_statement(
+    pub(super) fn terminated_statement<P>(
         &mut self,
         levels: usize,
         statements: &mut Vec<Expr>,
         positions: &mut Vec<Position>,
-    ) -> Result<(), SyntaxError> {
+        parts: &P,
+    ) -> Result<(), SyntaxError>
+    where
+        P: Fn(&mut Parser, usize, Part) -> Option<Expr>,
+        requires { P.IsAlwaysCallable parts.now }
+    {
         if self.takes(Symbol::Semicolon)? {
             return Ok(());
         }
-        let ends_itself = match self.symbol() {
-            Some(symbol) => symbol.begins_block(),
-            None => false,
-        };
+        let ends_itself = self.is_block_next();
         positions.push(self.position)?;
-        statements.push(self.statement(levels)?)?;
+        statements.push(self.inner(levels, Part::Statement, parts)?)?;
         if ends_itself || self.takes(Symbol::Semicolon)? || self.is_statement_end() {
             return Ok(());
         }
         Err(self.fault(SyntaxFault::Expected(Symbol::Semicolon)))
+    }
+
+    /// Whether a statement that begins here ends by itself, without a semicolon.
+    pub(super) fn is_block_next(&self) -> bool {
+        match self.symbol() {
+            Some(symbol) => symbol.begins_block(),
+            None => false,
+        }
     }
 
     /// Whether a statement ends before the next lexeme.
@@ -73,16 +89,24 @@ impl Parser {
 
     /// Parses a construct with blocks. Errors: the symbol begins none of them, and no other
     /// expression either.
-    #[cycle(parse)]
-    pub(super) fn construct(&mut self, levels: usize, symbol: Symbol) -> Result<Expr, SyntaxError> {
+    pub(super) fn construct<P>(
+        &mut self,
+        levels: usize,
+        symbol: Symbol,
+        parts: &P,
+    ) -> Result<Expr, SyntaxError>
+    where
+        P: Fn(&mut Parser, usize, Part) -> Option<Expr>,
+        requires { P.IsAlwaysCallable parts.now }
+    {
         match symbol {
-            Symbol::OpenBrace => self.inner_block(levels),
-            Symbol::If => self.if_else(levels),
-            Symbol::While => self.while_loop(levels),
-            Symbol::Do => self.do_loop(levels),
-            Symbol::Loop => self.endless_loop(levels),
-            Symbol::For => self.for_loop(levels),
-            Symbol::Switch => self.switch(levels),
+            Symbol::OpenBrace => self.inner_block(levels, parts),
+            Symbol::If => self.if_else(levels, parts),
+            Symbol::While => self.while_loop(levels, parts),
+            Symbol::Do => self.do_loop(levels, parts),
+            Symbol::Loop => self.endless_loop(levels, parts),
+            Symbol::For => self.for_loop(levels, parts),
+            Symbol::Switch => self.switch(levels, parts),
             Symbol::Break
             | Symbol::Catch
             | Symbol::Const
@@ -121,36 +145,45 @@ impl Parser {
         }
     }
 
-    #[cycle(parse)]
-    fn inner_block(&mut self, levels: usize) -> Result<Expr, SyntaxError> {
+    fn inner_block<P>(&mut self, levels: usize, parts: &P) -> Result<Expr, SyntaxError>
+    where
+        P: Fn(&mut Parser, usize, Part) -> Option<Expr>,
+        requires { P.IsAlwaysCallable parts.now }
+    {
         let below = self.below(levels)?;
-        Ok(Expr::Block(self.block(below)?))
+        Ok(Expr::Block(self.block(below, parts)?))
     }
 
-    #[cycle(parse)]
-    fn if_else(&mut self, levels: usize) -> Result<Expr, SyntaxError> {
+    fn if_else<P>(&mut self, levels: usize, parts: &P) -> Result<Expr, SyntaxError>
+    where
+        P: Fn(&mut Parser, usize, Part) -> Option<Expr>,
+        requires { P.IsAlwaysCallable parts.now }
+    {
         let below = self.below(levels)?;
         let mut arms = Vec::new(self.alloc);
         let mut otherwise = None;
         for _ in 0..self.lexemes_left() {
             self.expect(Symbol::If)?;
-            arms.push(self.arm(below)?)?;
+            arms.push(self.arm(below, parts)?)?;
             if !self.takes(Symbol::Else)? {
                 break;
             }
             if !self.is_next(Symbol::If) {
-                otherwise = Some(self.block(below)?);
+                otherwise = Some(self.block(below, parts)?);
                 break;
             }
         }
         Ok(Expr::If { arms, otherwise })
     }
 
-    #[cycle(parse)]
-    fn arm(&mut self, levels: usize) -> Result<Arm, SyntaxError> {
+    fn arm<P>(&mut self, levels: usize, parts: &P) -> Result<Arm, SyntaxError>
+    where
+        P: Fn(&mut Parser, usize, Part) -> Option<Expr>,
+        requires { P.IsAlwaysCallable parts.now }
+    {
         let position = self.position;
-        let condition = self.expression(levels, LOOSEST)?;
-        let body = self.block(levels)?;
+        let condition = self.inner(levels, Part::Expression(LOOSEST), parts)?;
+        let body = self.block(levels, parts)?;
         Ok(Arm {
             condition,
             position,
@@ -158,11 +191,14 @@ impl Parser {
         })
     }
 
-    #[cycle(parse)]
-    pub(super) fn try_catch(&mut self, levels: usize) -> Result<Expr, SyntaxError> {
+    pub(super) fn try_catch<P>(&mut self, levels: usize, parts: &P) -> Result<Expr, SyntaxError>
+    where
+        P: Fn(&mut Parser, usize, Part) -> Option<Expr>,
+        requires { P.IsAlwaysCallable parts.now }
+    {
         self.advance()?;
         let below = self.below(levels)?;
-        let body = self.block(below)?;
+        let body = self.block(below, parts)?;
         self.expect(Symbol::Catch)?;
         let first_slot = self.names.count();
         let error_name = self.caught_name()?;
@@ -170,7 +206,7 @@ impl Parser {
             Some(name) => Some(self.names.declare(name.as_str())?),
             None => None,
         };
-        let handler = self.block(below)?;
+        let handler = self.block(below, parts)?;
         self.names.close(first_slot)?;
         Ok(Expr::Try {
             body,
@@ -189,4 +225,24 @@ impl Parser {
         self.expect(Symbol::CloseParenthesis)?;
         Ok(Some(self.kept(name.as_str())?))
     }
+}
+
+/// Makes a block of one statement.
+pub(super) fn block_of(
+    alloc: Global,
+    statement: Expr,
+    position: Position,
+    first_slot: usize,
+    end_slot: usize,
+) -> Result<Block, SyntaxError> {
+    let mut statements = Vec::new(alloc);
+    statements.push(statement)?;
+    let mut positions = Vec::new(alloc);
+    positions.push(position)?;
+    Ok(Block {
+        statements,
+        positions,
+        first_slot,
+        end_slot,
+    })
 }

@@ -1,7 +1,8 @@
-// Indices, properties and methods.
+//! Indices, properties and methods.
+
 ghost use Rattle.std.specs.Prelude.{◌≡◌};
 
-use super::Parser;
+use super::{Parser, Part};
 use crate::error::SyntaxError;
 use crate::operators::LOOSEST;
 use crate::symbol::Symbol;
@@ -11,14 +12,27 @@ use script_tree::{Expr, Step};
 
 impl Parser {
     /// Parses an operand with the steps after it.
-    #[cycle(parse)]
-    pub(super) fn chain(&mut self, levels: usize) -> Result<Expr, SyntaxError> {
-        let root = self.primary(levels)?;
+    pub(super) fn chain<P>(&mut self, levels: usize, parts: &P) -> Result<Expr, SyntaxError>
+    where
+        P: Fn(&mut Parser, usize, Part) -> Option<Expr>,
+        requires { P.IsAlwaysCallable parts.now }
+    {
+        let root = self.primary(levels, parts)?;
         if !self.is_step_next() {
             return Ok(root);
         }
+        let root = Box::new(self.alloc, root)?;
         self.lower()?;
         let below = self.below(levels)?;
+        let steps = self.steps(below, parts)?;
+        Ok(Expr::Chain { root, steps })
+    }
+
+    fn steps<P>(&mut self, levels: usize, parts: &P) -> Result<Vec<Step>, SyntaxError>
+    where
+        P: Fn(&mut Parser, usize, Part) -> Option<Expr>,
+        requires { P.IsAlwaysCallable parts.now }
+    {
         let mut steps = Vec::new(self.alloc);
         for _ in 0..self.lexemes_left() {
             if !self.is_step_next() {
@@ -28,12 +42,9 @@ impl Parser {
                 let position = self.position;
                 steps.push(Step::Optional { position })?;
             }
-            steps.push(self.step(below)?)?;
+            steps.push(self.step(levels, parts)?)?;
         }
-        Ok(Expr::Chain {
-            root: Box::new(self.alloc, root)?,
-            steps,
-        })
+        Ok(steps)
     }
 
     fn is_step_next(&self) -> bool {
@@ -44,14 +55,16 @@ impl Parser {
         self.is_next(Symbol::OptionalBracket) || self.is_next(Symbol::OptionalDot)
     }
 
-    #[cycle(parse)]
-    fn step(&mut self, levels: usize) -> Result<Step, SyntaxError> {
+    fn step<P>(&mut self, levels: usize, parts: &P) -> Result<Step, SyntaxError>
+    where
+        P: Fn(&mut Parser, usize, Part) -> Option<Expr>,
+        requires { P.IsAlwaysCallable parts.now }
+    {
         let is_index = self.is_next(Symbol::OpenBracket) || self.is_next(Symbol::OptionalBracket);
         if is_index {
             self.advance()?;
             let position = self.position;
-            let index = self.expression(levels, LOOSEST)?;
-            self.expect(Symbol::CloseBracket)?;
+            let index = self.closed(levels, Symbol::CloseBracket, parts)?;
             return Ok(Step::Index { index, position });
         }
         if !self.takes(Symbol::OptionalDot)? {
@@ -60,23 +73,27 @@ impl Parser {
         let position = self.position;
         let word = self.word()?;
         if self.is_next(Symbol::OpenParenthesis) {
-            self.method(levels, word, position)
+            self.method(levels, word, position, parts)
         } else {
             self.property(word, position)
         }
     }
 
-    #[cycle(parse)]
-    fn method(
+    fn method<P>(
         &mut self,
         levels: usize,
         word: String,
         position: Position,
-    ) -> Result<Step, SyntaxError> {
+        parts: &P,
+    ) -> Result<Step, SyntaxError>
+    where
+        P: Fn(&mut Parser, usize, Part) -> Option<Expr>,
+        requires { P.IsAlwaysCallable parts.now }
+    {
         if let Some(fault) = no_method(word.as_str()) {
             return Err(SyntaxError::Fault(fault, position));
         }
-        let arguments = self.arguments(levels)?;
+        let arguments = self.arguments(levels, parts)?;
         let count = arguments.len().saturating_add(1);
         let callee = self.callees.number(word.as_str(), count)?;
         Ok(Step::Method {
@@ -95,21 +112,36 @@ impl Parser {
     }
 
     /// Parses the arguments of a call, in parentheses.
-    #[cycle(parse)]
-    pub(super) fn arguments(&mut self, levels: usize) -> Result<Vec<Expr>, SyntaxError> {
+    pub(super) fn arguments<P>(
+        &mut self,
+        levels: usize,
+        parts: &P,
+    ) -> Result<Vec<Expr>, SyntaxError>
+    where
+        P: Fn(&mut Parser, usize, Part) -> Option<Expr>,
+        requires { P.IsAlwaysCallable parts.now }
+    {
         self.expect(Symbol::OpenParenthesis)?;
-        self.list(levels, Symbol::CloseParenthesis)
+        self.list(levels, Symbol::CloseParenthesis, parts)
     }
 
     /// Parses expressions up to this symbol.
-    #[cycle(parse)]
-    pub(super) fn list(&mut self, levels: usize, end: Symbol) -> Result<Vec<Expr>, SyntaxError> {
+    pub(super) fn list<P>(
+        &mut self,
+        levels: usize,
+        end: Symbol,
+        parts: &P,
+    ) -> Result<Vec<Expr>, SyntaxError>
+    where
+        P: Fn(&mut Parser, usize, Part) -> Option<Expr>,
+        requires { P.IsAlwaysCallable parts.now }
+    {
         let mut items = Vec::new(self.alloc);
         for _ in 0..self.lexemes_left() {
             if self.is_next(end) {
                 break;
             }
-            items.push(self.expression(levels, LOOSEST)?)?;
+            items.push(self.inner(levels, Part::Expression(LOOSEST), parts)?)?;
             if !self.is_next(end) {
                 self.expect(Symbol::Comma)?;
             }

@@ -1,6 +1,6 @@
-// Operators and their operands.
+//! Operators and their operands.
 
-use super::Parser;
+use super::{Parser, Part};
 use crate::error::SyntaxError;
 use crate::operators::{LOOSEST, MEMBERSHIP, POWER, operator_of};
 use crate::symbol::Symbol;
@@ -10,40 +10,83 @@ use std::mem;
 
 impl Parser {
     /// Parses an expression with operators of at least this precedence.
-    #[cycle(parse)]
-    pub(super) fn expression(&mut self, levels: usize, least: u8) -> Result<Expr, SyntaxError> {
+    pub(super) fn expression<P>(
+        &mut self,
+        levels: usize,
+        least: u8,
+        parts: &P,
+    ) -> Result<Expr, SyntaxError>
+    where
+        P: Fn(&mut Parser, usize, Part) -> Option<Expr>,
+        requires { P.IsAlwaysCallable parts.now }
+    {
         let outer = mem::replace(&mut self.lowest, levels);
-        let mut read = self.unary(levels)?;
+        let mut read = self.unary(levels, parts)?;
         for _ in 0..self.lexemes_left() {
             let Some(level) = self.next_level(least) else {
                 break;
             };
             read = if level == MEMBERSHIP {
-                self.membership(levels, read)?
+                self.membership(levels, read, parts)?
             } else {
-                self.lower()?;
-                let rest = self.run(levels, level)?;
-                Expr::Run {
-                    first: Box::new(self.alloc, read)?,
-                    rest,
-                }
+                self.operated(levels, level, read, parts)?
             };
         }
         self.reach(outer);
         Ok(read)
     }
 
-    /// Parses a part one level below this one.
-    #[cycle(parse)]
-    pub(super) fn part(&mut self, levels: usize) -> Result<Box<Expr>, SyntaxError> {
+    /// Parses the operators of one precedence after an operand.
+    fn operated<P>(
+        &mut self,
+        levels: usize,
+        level: u8,
+        first: Expr,
+        parts: &P,
+    ) -> Result<Expr, SyntaxError>
+    where
+        P: Fn(&mut Parser, usize, Part) -> Option<Expr>,
+        requires { P.IsAlwaysCallable parts.now }
+    {
+        let first = Box::new(self.alloc, first)?;
+        self.lower()?;
+        let rest = self.run(levels, level, parts)?;
+        Ok(Expr::Run { first, rest })
+    }
+
+    /// Parses an expression, and this symbol after it.
+    pub(super) fn closed<P>(
+        &mut self,
+        levels: usize,
+        end: Symbol,
+        parts: &P,
+    ) -> Result<Expr, SyntaxError>
+    where
+        P: Fn(&mut Parser, usize, Part) -> Option<Expr>,
+        requires { P.IsAlwaysCallable parts.now }
+    {
+        let read = self.inner(levels, Part::Expression(LOOSEST), parts)?;
+        self.expect(end)?;
+        Ok(read)
+    }
+
+    /// Parses an expression one level below this one.
+    pub(super) fn boxed<P>(&mut self, levels: usize, parts: &P) -> Result<Box<Expr>, SyntaxError>
+    where
+        P: Fn(&mut Parser, usize, Part) -> Option<Expr>,
+        requires { P.IsAlwaysCallable parts.now }
+    {
         let below = self.below(levels)?;
-        let part = self.expression(below, LOOSEST)?;
+        let part = self.inner(below, Part::Expression(LOOSEST), parts)?;
         Ok(Box::new(self.alloc, part)?)
     }
 
     /// Parses the following operators of one precedence, each with its right operand.
-    #[cycle(parse)]
-    fn run(&mut self, levels: usize, level: u8) -> Result<Vec<Term>, SyntaxError> {
+    fn run<P>(&mut self, levels: usize, level: u8, parts: &P) -> Result<Vec<Term>, SyntaxError>
+    where
+        P: Fn(&mut Parser, usize, Part) -> Option<Expr>,
+        requires { P.IsAlwaysCallable parts.now }
+    {
         let below = self.below(levels)?;
         let mut terms = Vec::new(self.alloc);
         for _ in 0..self.lexemes_left() {
@@ -52,7 +95,7 @@ impl Parser {
             };
             let position = self.position;
             self.advance()?;
-            let operand = self.expression(below, least_behind(level))?;
+            let operand = self.inner(below, Part::Expression(least_behind(level)), parts)?;
             terms.push(Term {
                 operator,
                 position,
@@ -63,14 +106,17 @@ impl Parser {
     }
 
     /// Parses `in` or `!in` after an item, and the container.
-    #[cycle(parse)]
-    fn membership(&mut self, levels: usize, item: Expr) -> Result<Expr, SyntaxError> {
+    fn membership<P>(&mut self, levels: usize, item: Expr, parts: &P) -> Result<Expr, SyntaxError>
+    where
+        P: Fn(&mut Parser, usize, Part) -> Option<Expr>,
+        requires { P.IsAlwaysCallable parts.now }
+    {
         let below = self.below(levels)?;
         let is_in = self.is_next(Symbol::In);
         self.lower()?;
         let position = self.position;
         self.advance()?;
-        let container = self.expression(below, least_behind(MEMBERSHIP))?;
+        let container = self.inner(below, Part::Expression(least_behind(MEMBERSHIP)), parts)?;
         self.contains(container, item, is_in, position)
     }
 
@@ -82,9 +128,12 @@ impl Parser {
         is_in: bool,
         position: Position,
     ) -> Result<Expr, SyntaxError> {
+        let mut operands = Vec::new(self.alloc);
+        operands.push(container)?;
+        operands.push(item)?;
         let contains = Expr::Contains {
             callee: self.callees.number("contains", 2)?,
-            operands: vec![in self.alloc; container, item]?,
+            operands,
             position,
         };
         if is_in {
@@ -95,16 +144,19 @@ impl Parser {
     }
 
     /// Parses an operand, with its unary operators.
-    #[cycle(parse)]
-    fn unary(&mut self, levels: usize) -> Result<Expr, SyntaxError> {
+    pub(super) fn unary<P>(&mut self, levels: usize, parts: &P) -> Result<Expr, SyntaxError>
+    where
+        P: Fn(&mut Parser, usize, Part) -> Option<Expr>,
+        requires { P.IsAlwaysCallable parts.now }
+    {
         self.reach(levels);
         let Some(operator) = self.next_unary() else {
-            return self.chain(levels);
+            return self.chain(levels, parts);
         };
         let position = self.position;
         self.advance()?;
         let below = self.below(levels)?;
-        let operand = self.unary(below)?;
+        let operand = self.inner(below, Part::Operand, parts)?;
         self.with_unary(operator, operand, position)
     }
 

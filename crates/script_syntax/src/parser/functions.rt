@@ -1,7 +1,9 @@
-// Functions and anonymous functions.
+//! Functions and anonymous functions.
+
 ghost use Rattle.std.specs.Prelude.{◌≡◌};
 
-use super::Parser;
+use super::blocks::block_of;
+use super::{Parser, Part};
 use crate::error::{SyntaxError, SyntaxFault};
 use crate::lexeme::Lexeme;
 use crate::names::Names;
@@ -20,7 +22,8 @@ impl Parser {
         self.expect(Symbol::OpenParenthesis)?;
         let parameters = self.parameters(Symbol::CloseParenthesis)?;
         self.is_function = true;
-        let body = self.block(MOST_LEVELS)?;
+        let parts = |parser: &mut Parser, levels: usize, part: Part| parser.part(levels, part);
+        let body = self.block(MOST_LEVELS, &parts)?;
         self.is_function = false;
         let mut names = mem::replace(&mut self.names, outside);
         let known = names.leave();
@@ -109,8 +112,11 @@ impl Parser {
     }
 
     /// Parses an anonymous function.
-    #[cycle(parse)]
-    pub(super) fn closure(&mut self, levels: usize) -> Result<Expr, SyntaxError> {
+    pub(super) fn closure<P>(&mut self, levels: usize, parts: &P) -> Result<Expr, SyntaxError>
+    where
+        P: Fn(&mut Parser, usize, Part) -> Option<Expr>,
+        requires { P.IsAlwaysCallable parts.now }
+    {
         let position = self.position;
         let below = self.below(levels)?;
         self.names.enter()?;
@@ -121,8 +127,15 @@ impl Parser {
             self.parameters(Symbol::Operator(Token::Pipe))?
         };
         let begins = self.position;
-        let body = self.statement(below)?;
+        let body = self.inner(below, Part::Statement, parts)?;
         self.made_closure(parameters, body, begins, position)
+    }
+
+    /// Returns the name of the next function, which is anonymous.
+    fn closure_name(&self) -> Result<ImmutableString, SyntaxError> {
+        let (stamp, function) = (self.stamp, self.functions.len());
+        let name = format!(in self.alloc; "anon${stamp:016x}${function}")?;
+        self.kept(name.as_str())
     }
 
     /// Completes an anonymous function, whose body was parsed.
@@ -134,14 +147,10 @@ impl Parser {
         position: Position,
     ) -> Result<Expr, SyntaxError> {
         let end_slot = self.names.count();
+        let name = self.closure_name()?;
         let body = match body {
             Expr::Block(block) => block,
-            statement => Block {
-                statements: vec![in self.alloc; statement]?,
-                positions: vec![in self.alloc; begins]?,
-                first_slot: parameters,
-                end_slot,
-            },
+            statement => block_of(self.alloc, statement, begins, parameters, end_slot)?,
         };
         let mut known = self.names.leave();
         let given = known.given(parameters)?;
@@ -149,10 +158,8 @@ impl Parser {
         let uses_this = known.uses_this();
         let (slots, captured) = known.into_parts();
         let function = self.functions.len();
-        let stamp = self.stamp;
-        let name = format!(in self.alloc; "anon${stamp:016x}${function}")?;
         self.functions.push(Function {
-            name: ImmutableString::from_str(self.alloc, name.as_str())?,
+            name,
             captured: captured.len(),
             parameters,
             slots,

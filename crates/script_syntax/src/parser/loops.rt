@@ -1,6 +1,6 @@
-// Loops.
+//! Loops.
 
-use super::Parser;
+use super::{Parser, Part};
 use crate::error::{SyntaxError, SyntaxFault};
 use crate::operators::LOOSEST;
 use crate::symbol::Symbol;
@@ -8,21 +8,27 @@ use script_tree::{Arm, Block, Expr};
 
 impl Parser {
     /// Parses the block of a loop.
-    #[cycle(parse)]
-    fn loop_body(&mut self, levels: usize) -> Result<Block, SyntaxError> {
+    fn loop_body<P>(&mut self, levels: usize, parts: &P) -> Result<Block, SyntaxError>
+    where
+        P: Fn(&mut Parser, usize, Part) -> Option<Expr>,
+        requires { P.IsAlwaysCallable parts.now }
+    {
         self.names.enter_loop();
-        let body = self.block(levels)?;
+        let body = self.block(levels, parts)?;
         self.names.leave_loop();
         Ok(body)
     }
 
-    #[cycle(parse)]
-    pub(super) fn while_loop(&mut self, levels: usize) -> Result<Expr, SyntaxError> {
+    pub(super) fn while_loop<P>(&mut self, levels: usize, parts: &P) -> Result<Expr, SyntaxError>
+    where
+        P: Fn(&mut Parser, usize, Part) -> Option<Expr>,
+        requires { P.IsAlwaysCallable parts.now }
+    {
         self.advance()?;
         let below = self.below(levels)?;
         let position = self.position;
-        let condition = self.expression(below, LOOSEST)?;
-        let body = self.loop_body(below)?;
+        let condition = self.inner(below, Part::Expression(LOOSEST), parts)?;
+        let body = self.loop_body(below, parts)?;
         let arm = Arm {
             condition,
             position,
@@ -31,17 +37,20 @@ impl Parser {
         Ok(Expr::While(Box::new(self.alloc, arm)?))
     }
 
-    #[cycle(parse)]
-    pub(super) fn do_loop(&mut self, levels: usize) -> Result<Expr, SyntaxError> {
+    pub(super) fn do_loop<P>(&mut self, levels: usize, parts: &P) -> Result<Expr, SyntaxError>
+    where
+        P: Fn(&mut Parser, usize, Part) -> Option<Expr>,
+        requires { P.IsAlwaysCallable parts.now }
+    {
         self.advance()?;
         let below = self.below(levels)?;
-        let body = self.loop_body(below)?;
+        let body = self.loop_body(below, parts)?;
         let goes_on = self.takes(Symbol::While)?;
         if !goes_on {
             self.expect(Symbol::Until)?;
         }
         let position = self.position;
-        let condition = self.expression(below, LOOSEST)?;
+        let condition = self.inner(below, Part::Expression(LOOSEST), parts)?;
         let arm = Arm {
             condition,
             position,
@@ -50,20 +59,26 @@ impl Parser {
         Ok(Expr::Do(Box::new(self.alloc, arm)?, goes_on))
     }
 
-    #[cycle(parse)]
-    pub(super) fn endless_loop(&mut self, levels: usize) -> Result<Expr, SyntaxError> {
+    pub(super) fn endless_loop<P>(&mut self, levels: usize, parts: &P) -> Result<Expr, SyntaxError>
+    where
+        P: Fn(&mut Parser, usize, Part) -> Option<Expr>,
+        requires { P.IsAlwaysCallable parts.now }
+    {
         self.advance()?;
         let below = self.below(levels)?;
-        Ok(Expr::Loop(self.loop_body(below)?))
+        Ok(Expr::Loop(self.loop_body(below, parts)?))
     }
 
-    #[cycle(parse)]
-    pub(super) fn for_loop(&mut self, levels: usize) -> Result<Expr, SyntaxError> {
+    pub(super) fn for_loop<P>(&mut self, levels: usize, parts: &P) -> Result<Expr, SyntaxError>
+    where
+        P: Fn(&mut Parser, usize, Part) -> Option<Expr>,
+        requires { P.IsAlwaysCallable parts.now }
+    {
         self.advance()?;
         let (item, index) = self.loop_names()?;
         self.expect(Symbol::In)?;
         let position = self.position;
-        let source = self.part(levels)?;
+        let source = self.boxed(levels, parts)?;
         let below = self.below(levels)?;
         let first_slot = self.names.count();
         let item_name = self.kept(item.as_str())?;
@@ -75,7 +90,7 @@ impl Parser {
             ),
             None => (None, None),
         };
-        let body = self.loop_body(below)?;
+        let body = self.loop_body(below, parts)?;
         self.names.close(first_slot)?;
         Ok(Expr::For {
             item,

@@ -1,7 +1,8 @@
-// Literals, variables, calls, and expressions in brackets.
+//! Literals, variables, calls, and expressions in brackets.
+
 ghost use Rattle.std.specs.Prelude.{◌≡◌};
 
-use super::Parser;
+use super::{Parser, Part};
 use crate::error::{SyntaxError, SyntaxFault};
 use crate::lexeme::Lexeme;
 use crate::operators::LOOSEST;
@@ -13,17 +14,20 @@ use std::collections::BTreeSet;
 
 impl Parser {
     /// Parses an operand without the steps after it.
-    #[cycle(parse)]
-    pub(super) fn primary(&mut self, levels: usize) -> Result<Expr, SyntaxError> {
+    pub(super) fn primary<P>(&mut self, levels: usize, parts: &P) -> Result<Expr, SyntaxError>
+    where
+        P: Fn(&mut Parser, usize, Part) -> Option<Expr>,
+        requires { P.IsAlwaysCallable parts.now }
+    {
         match self.symbol() {
-            Some(Symbol::OpenParenthesis) => self.parenthesized(levels),
-            Some(Symbol::OpenBracket) => self.array(levels),
-            Some(Symbol::OpenMap) => self.object(levels),
-            Some(Symbol::Operator(Token::Pipe) | Symbol::Or) => self.closure(levels),
+            Some(Symbol::OpenParenthesis) => self.parenthesized(levels, parts),
+            Some(Symbol::OpenBracket) => self.array(levels, parts),
+            Some(Symbol::OpenMap) => self.object(levels, parts),
+            Some(Symbol::Operator(Token::Pipe) | Symbol::Or) => self.closure(levels, parts),
             Some(Symbol::True) => self.literal(Expr::Bool(true)),
             Some(Symbol::False) => self.literal(Expr::Bool(false)),
-            Some(symbol) => self.construct(levels, symbol),
-            None => self.operand(levels),
+            Some(symbol) => self.construct(levels, symbol, parts),
+            None => self.operand(levels, parts),
         }
     }
 
@@ -34,21 +38,24 @@ impl Parser {
     }
 
     /// Parses an operand that doesn't begin with a symbol.
-    #[cycle(parse)]
-    fn operand(&mut self, levels: usize) -> Result<Expr, SyntaxError> {
+    fn operand<P>(&mut self, levels: usize, parts: &P) -> Result<Expr, SyntaxError>
+    where
+        P: Fn(&mut Parser, usize, Part) -> Option<Expr>,
+        requires { P.IsAlwaysCallable parts.now }
+    {
         let position = self.position;
         match self.take_lexeme() {
             Lexeme::Int(number) => self.literal(Expr::Int(number)),
             Lexeme::Char(c) => self.literal(Expr::Char(c)),
             Lexeme::Text(text) => {
-                let text = ImmutableString::from_str(self.alloc, text.as_str())?;
-                self.literal(Expr::Text(text))
+                let text = self.text(text.as_str())?;
+                self.literal(text)
             }
-            Lexeme::TextBefore(text) => self.template(levels, text.as_str(), position),
+            Lexeme::TextBefore(text) => self.template(levels, text.as_str(), position, parts),
             Lexeme::Name(word) => {
                 self.advance()?;
                 if self.is_next(Symbol::OpenParenthesis) {
-                    self.call(levels, word, position)
+                    self.call(levels, word, position, parts)
                 } else {
                     self.variable(word, position)
                 }
@@ -58,18 +65,22 @@ impl Parser {
     }
 
     /// Parses the arguments of a call.
-    #[cycle(parse)]
-    fn call(
+    fn call<P>(
         &mut self,
         levels: usize,
         word: String,
         position: Position,
-    ) -> Result<Expr, SyntaxError> {
+        parts: &P,
+    ) -> Result<Expr, SyntaxError>
+    where
+        P: Fn(&mut Parser, usize, Part) -> Option<Expr>,
+        requires { P.IsAlwaysCallable parts.now }
+    {
         if let Some(fault) = no_function(word.as_str()) {
             return Err(SyntaxError::Fault(fault, position));
         }
         let below = self.below(levels)?;
-        let arguments = self.arguments(below)?;
+        let arguments = self.arguments(below, parts)?;
         let callee = self.callees.number(word.as_str(), arguments.len())?;
         Ok(Expr::Call {
             callee,
@@ -113,27 +124,34 @@ impl Parser {
         Ok(Variable::Unknown(self.kept(word.as_str())?))
     }
 
-    #[cycle(parse)]
-    fn parenthesized(&mut self, levels: usize) -> Result<Expr, SyntaxError> {
+    fn parenthesized<P>(&mut self, levels: usize, parts: &P) -> Result<Expr, SyntaxError>
+    where
+        P: Fn(&mut Parser, usize, Part) -> Option<Expr>,
+        requires { P.IsAlwaysCallable parts.now }
+    {
         self.advance()?;
         if self.takes(Symbol::CloseParenthesis)? {
             return Ok(Expr::Unit);
         }
         let below = self.below(levels)?;
-        let read = self.expression(below, LOOSEST)?;
-        self.expect(Symbol::CloseParenthesis)?;
-        Ok(read)
+        self.closed(below, Symbol::CloseParenthesis, parts)
     }
 
-    #[cycle(parse)]
-    fn array(&mut self, levels: usize) -> Result<Expr, SyntaxError> {
+    fn array<P>(&mut self, levels: usize, parts: &P) -> Result<Expr, SyntaxError>
+    where
+        P: Fn(&mut Parser, usize, Part) -> Option<Expr>,
+        requires { P.IsAlwaysCallable parts.now }
+    {
         self.advance()?;
         let below = self.below(levels)?;
-        Ok(Expr::Array(self.list(below, Symbol::CloseBracket)?))
+        Ok(Expr::Array(self.list(below, Symbol::CloseBracket, parts)?))
     }
 
-    #[cycle(parse)]
-    fn object(&mut self, levels: usize) -> Result<Expr, SyntaxError> {
+    fn object<P>(&mut self, levels: usize, parts: &P) -> Result<Expr, SyntaxError>
+    where
+        P: Fn(&mut Parser, usize, Part) -> Option<Expr>,
+        requires { P.IsAlwaysCallable parts.now }
+    {
         self.advance()?;
         let below = self.below(levels)?;
         let mut keys = BTreeSet::new(self.alloc);
@@ -143,7 +161,7 @@ impl Parser {
                 break;
             }
             let key = self.key(&mut keys)?;
-            let value = self.expression(below, LOOSEST)?;
+            let value = self.inner(below, Part::Expression(LOOSEST), parts)?;
             fields.push(Field { key, value })?;
             if !self.is_next(Symbol::CloseBrace) {
                 self.expect(Symbol::Comma)?;

@@ -1,7 +1,8 @@
-// Statements.
+//! Statements.
+
 ghost use Rattle.std.specs.Prelude.{◌≡◌};
 
-use super::Parser;
+use super::{Parser, Part};
 use crate::error::{SyntaxError, SyntaxFault};
 use crate::operators::{Assigning, LOOSEST, assigning_of};
 use crate::symbol::Symbol;
@@ -18,30 +19,33 @@ struct Place {
 
 impl Parser {
     /// Parses a statement, without its semicolon.
-    #[cycle(parse)]
-    pub(super) fn statement(&mut self, levels: usize) -> Result<Expr, SyntaxError> {
+    pub(super) fn statement<P>(&mut self, levels: usize, parts: &P) -> Result<Expr, SyntaxError>
+    where
+        P: Fn(&mut Parser, usize, Part) -> Option<Expr>,
+        requires { P.IsAlwaysCallable parts.now }
+    {
         self.reach(levels);
         match self.symbol() {
-            Some(Symbol::Let) => self.declaration(levels, false),
-            Some(Symbol::Const) => self.declaration(levels, true),
-            Some(Symbol::Return) => Ok(Expr::Return(self.behind_word(levels)?)),
+            Some(Symbol::Let) => self.declaration(levels, false, parts),
+            Some(Symbol::Const) => self.declaration(levels, true, parts),
+            Some(Symbol::Return) => Ok(Expr::Return(self.behind_word(levels, parts)?)),
             Some(Symbol::Throw) => {
                 let position = self.position;
-                Ok(Expr::Throw(self.behind_word(levels)?, position))
+                Ok(Expr::Throw(self.behind_word(levels, parts)?, position))
             }
             Some(Symbol::Break) => {
                 self.check_loop()?;
-                Ok(Expr::Break(self.behind_word(levels)?))
+                Ok(Expr::Break(self.behind_word(levels, parts)?))
             }
             Some(Symbol::Continue) => {
                 self.check_loop()?;
                 self.advance()?;
                 Ok(Expr::Continue)
             }
-            Some(Symbol::Try) => self.try_catch(levels),
+            Some(Symbol::Try) => self.try_catch(levels, parts),
             Some(Symbol::Fn) => Err(self.fault(SyntaxFault::FunctionInside)),
-            Some(symbol) if symbol.begins_block() => self.construct(levels, symbol),
-            _ => self.value_or_assignment(levels),
+            Some(symbol) if symbol.begins_block() => self.construct(levels, symbol, parts),
+            _ => self.value_or_assignment(levels, parts),
         }
     }
 
@@ -54,22 +58,33 @@ impl Parser {
     }
 
     /// Parses the value after a keyword, if there is one.
-    #[cycle(parse)]
-    fn behind_word(&mut self, levels: usize) -> Result<Option<Box<Expr>>, SyntaxError> {
+    fn behind_word<P>(&mut self, levels: usize, parts: &P) -> Result<Option<Box<Expr>>, SyntaxError>
+    where
+        P: Fn(&mut Parser, usize, Part) -> Option<Expr>,
+        requires { P.IsAlwaysCallable parts.now }
+    {
         self.advance()?;
         if self.is_statement_end() {
             Ok(None)
         } else {
-            Ok(Some(self.part(levels)?))
+            Ok(Some(self.boxed(levels, parts)?))
         }
     }
 
-    #[cycle(parse)]
-    fn declaration(&mut self, levels: usize, is_constant: bool) -> Result<Expr, SyntaxError> {
+    fn declaration<P>(
+        &mut self,
+        levels: usize,
+        is_constant: bool,
+        parts: &P,
+    ) -> Result<Expr, SyntaxError>
+    where
+        P: Fn(&mut Parser, usize, Part) -> Option<Expr>,
+        requires { P.IsAlwaysCallable parts.now }
+    {
         self.advance()?;
         let name = self.name()?;
         let value = if self.takes(Symbol::Operator(Token::Equals))? {
-            Some(self.part(levels)?)
+            Some(self.boxed(levels, parts)?)
         } else {
             None
         };
@@ -82,32 +97,39 @@ impl Parser {
         })
     }
 
-    #[cycle(parse)]
-    fn value_or_assignment(&mut self, levels: usize) -> Result<Expr, SyntaxError> {
-        let read = self.expression(levels, LOOSEST)?;
+    fn value_or_assignment<P>(&mut self, levels: usize, parts: &P) -> Result<Expr, SyntaxError>
+    where
+        P: Fn(&mut Parser, usize, Part) -> Option<Expr>,
+        requires { P.IsAlwaysCallable parts.now }
+    {
+        let read = self.expression(levels, LOOSEST, parts)?;
         let assigning = match self.symbol() {
             Some(symbol) => assigning_of(symbol),
             None => Assigning::No,
         };
         match assigning {
             Assigning::No => Ok(read),
-            Assigning::Plainly => self.assignment(levels, read, None),
-            Assigning::By(operator) => self.assignment(levels, read, Some(operator)),
+            Assigning::Plainly => self.assignment(levels, read, None, parts),
+            Assigning::By(operator) => self.assignment(levels, read, Some(operator), parts),
         }
     }
 
     /// Parses the value assigned to the expression before.
-    #[cycle(parse)]
-    fn assignment(
+    fn assignment<P>(
         &mut self,
         levels: usize,
         read: Expr,
         operator: Option<Assignment>,
-    ) -> Result<Expr, SyntaxError> {
+        parts: &P,
+    ) -> Result<Expr, SyntaxError>
+    where
+        P: Fn(&mut Parser, usize, Part) -> Option<Expr>,
+        requires { P.IsAlwaysCallable parts.now }
+    {
         let position = self.position;
         let place = self.place(read)?;
         self.advance()?;
-        let value = self.part(levels)?;
+        let value = self.boxed(levels, parts)?;
         let Place {
             variable,
             position: variable_position,

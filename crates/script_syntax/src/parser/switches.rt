@@ -1,7 +1,9 @@
-// `switch`.
+//! `switch`.
+
 ghost use Rattle.std.specs.Prelude.{◌≡◌};
 
-use super::Parser;
+use super::blocks::block_of;
+use super::{Parser, Part};
 use crate::error::{SyntaxError, SyntaxFault};
 use crate::lexeme::Lexeme;
 use crate::operators::LOOSEST;
@@ -11,42 +13,73 @@ use rhai_value::INT;
 use script_tree::{Block, Case, Expr, Pattern, Switch};
 
 impl Parser {
-    #[cycle(parse)]
-    pub(super) fn switch(&mut self, levels: usize) -> Result<Expr, SyntaxError> {
+    pub(super) fn switch<P>(&mut self, levels: usize, parts: &P) -> Result<Expr, SyntaxError>
+    where
+        P: Fn(&mut Parser, usize, Part) -> Option<Expr>,
+        requires { P.IsAlwaysCallable parts.now }
+    {
         self.advance()?;
         let below = self.below(levels)?;
         let position = self.position;
-        let value = self.expression(below, LOOSEST)?;
-        self.expect(Symbol::OpenBrace)?;
-        let mut cases = Vec::new(self.alloc);
-        let mut otherwise = None;
-        for _ in 0..self.lexemes_left() {
-            if self.is_next(Symbol::CloseBrace) {
-                break;
-            }
-            if otherwise.is_some() {
-                return Err(self.fault(SyntaxFault::CaseBehindDefault));
-            }
-            if self.takes(Symbol::Underscore)? {
-                otherwise = Some(self.case_body(below)?);
-            } else {
-                cases.push(self.case(below)?)?;
-            }
-        }
-        self.expect(Symbol::CloseBrace)?;
+        let value = self.inner(below, Part::Expression(LOOSEST), parts)?;
+        let (cases, otherwise) = self.cases(below, parts)?;
+        let type_of = self.callees.number("type_of", 1)?;
         let switch = Switch {
             value,
             position,
             cases,
             otherwise,
-            type_of: self.callees.number("type_of", 1)?,
+            type_of,
         };
         Ok(Expr::Switch(Box::new(self.alloc, switch)?))
     }
 
+    /// Parses the cases in braces, and the body of the case `_`, if there is one.
+    fn cases<P>(
+        &mut self,
+        levels: usize,
+        parts: &P,
+    ) -> Result<(Vec<Case>, Option<Block>), SyntaxError>
+    where
+        P: Fn(&mut Parser, usize, Part) -> Option<Expr>,
+        requires { P.IsAlwaysCallable parts.now }
+    {
+        self.expect(Symbol::OpenBrace)?;
+        let mut cases = Vec::new(self.alloc);
+        for _ in 0..self.lexemes_left() {
+            if self.is_next(Symbol::CloseBrace) || self.is_next(Symbol::Underscore) {
+                break;
+            }
+            cases.push(self.case(levels, parts)?)?;
+        }
+        let otherwise = self.default_case(levels, parts)?;
+        self.expect(Symbol::CloseBrace)?;
+        Ok((cases, otherwise))
+    }
+
+    /// Parses the case `_`, if it comes next. It has to be the last.
+    fn default_case<P>(&mut self, levels: usize, parts: &P) -> Result<Option<Block>, SyntaxError>
+    where
+        P: Fn(&mut Parser, usize, Part) -> Option<Expr>,
+        requires { P.IsAlwaysCallable parts.now }
+    {
+        if !self.takes(Symbol::Underscore)? {
+            return Ok(None);
+        }
+        let body = self.case_body(levels, parts)?;
+        if self.is_next(Symbol::CloseBrace) {
+            Ok(Some(body))
+        } else {
+            Err(self.fault(SyntaxFault::CaseBehindDefault))
+        }
+    }
+
     /// Parses a case: its patterns, its guard, and its body.
-    #[cycle(parse)]
-    fn case(&mut self, levels: usize) -> Result<Case, SyntaxError> {
+    fn case<P>(&mut self, levels: usize, parts: &P) -> Result<Case, SyntaxError>
+    where
+        P: Fn(&mut Parser, usize, Part) -> Option<Expr>,
+        requires { P.IsAlwaysCallable parts.now }
+    {
         let mut patterns = Vec::new(self.alloc);
         for _ in 0..self.lexemes_left() {
             patterns.push(self.pattern()?)?;
@@ -56,11 +89,11 @@ impl Parser {
         }
         let guard_position = self.position;
         let guard = if self.takes(Symbol::If)? {
-            Some(self.expression(levels, LOOSEST)?)
+            Some(self.inner(levels, Part::Expression(LOOSEST), parts)?)
         } else {
             None
         };
-        let body = self.case_body(levels)?;
+        let body = self.case_body(levels, parts)?;
         Ok(Case {
             patterns,
             guard,
@@ -71,27 +104,30 @@ impl Parser {
 
     /// Parses the body of a case, with the comma after it. A statement that ends by itself needs
     /// none.
-    #[cycle(parse)]
-    fn case_body(&mut self, levels: usize) -> Result<Block, SyntaxError> {
+    fn case_body<P>(&mut self, levels: usize, parts: &P) -> Result<Block, SyntaxError>
+    where
+        P: Fn(&mut Parser, usize, Part) -> Option<Expr>,
+        requires { P.IsAlwaysCallable parts.now }
+    {
         self.expect(Symbol::Arrow)?;
-        let ends_itself = match self.symbol() {
-            Some(symbol) => symbol.begins_block(),
-            None => false,
-        };
+        let ends_itself = self.is_block_next();
         let first_slot = self.names.count();
         let position = self.position;
-        let statement = self.statement(levels)?;
+        let statement = self.inner(levels, Part::Statement, parts)?;
         let end_slot = self.names.count();
+        let body = block_of(self.alloc, statement, position, first_slot, end_slot)?;
         self.names.close(first_slot)?;
-        if !self.takes(Symbol::Comma)? && !ends_itself && !self.is_next(Symbol::CloseBrace) {
-            return Err(self.fault(SyntaxFault::Expected(Symbol::Comma)));
+        self.end_case(ends_itself)?;
+        Ok(body)
+    }
+
+    /// Moves past the comma after a case.
+    fn end_case(&mut self, ends_itself: bool) -> Result<(), SyntaxError> {
+        if self.takes(Symbol::Comma)? || ends_itself || self.is_next(Symbol::CloseBrace) {
+            Ok(())
+        } else {
+            Err(self.fault(SyntaxFault::Expected(Symbol::Comma)))
         }
-        Ok(Block {
-            statements: vec![in self.alloc; statement]?,
-            positions: vec![in self.alloc; position]?,
-            first_slot,
-            end_slot,
-        })
     }
 
     /// Parses a literal, or a range of ints.

@@ -134,7 +134,8 @@ pub fn hash(handle: &Handle, i: usize, told: &mut Told) -> u32 {
     unsafe { rhai_host_hash(handle.lent().at(), i, told) }
 }
 
-/// Returns where a slice of a list of this length starts and how many items it has, for a start and a number of items.
+/// Returns where a slice of a list of this length starts and how many items it has, for a start and
+/// a number of items.
 #[inline]
 pub fn offset(handle: &Handle, length: usize, start: i64, count: i64, told: &mut Told) -> u32 {
     // SAFETY: `handle` is zeros or what a call left, and this call's alone: it is no `Sync`, and the library comes back by

@@ -46,7 +46,8 @@ pub fn write_bit(handle: &Handle, is_entry: bool, at: usize, bit: u8, j: usize, 
     unsafe { rhai_host_write_bit(handle.lent().at(), is_entry, at, bit, j, told) }
 }
 
-/// Writes the int at the hand position, shifted left, to the bits of the mask in the int at the place.
+/// Writes the int at the hand position, shifted left, to the bits of the mask in the int at the
+/// place.
 #[inline]
 pub fn write_field(handle: &Handle, is_entry: bool, at: usize, mask: i64, shift: u8, j: usize, told: &mut Told) -> u32 {
     // SAFETY: `handle` is zeros or what a call left, and this call's alone: it is no `Sync`, and the library comes back by

@@ -4,7 +4,8 @@ unsafe extern "C" {
     fn rhai_host_stamp_e8e595b8b555eb6c();
 }
 
-/// Does nothing: its name is a sum of all that is exported, so that a host of other declarations doesn't link.
+/// Does nothing: its name is a sum of all that is exported, so that a host of other declarations
+/// doesn't link.
 #[inline]
 pub fn stamp() {
     // SAFETY: It takes nothing.

@@ -21,7 +21,8 @@ pub(super) const ASSIGNMENTS: [Token; 11] = [
     Token::XOrAssign,
 ];
 
-/// For each kind of the first operand, in the order of `kind`, the line of each kind of the second one; `-` has no row.
+/// For each kind of the first operand, in the order of `kind`, the line of each kind of the second
+/// one; `-` has no row.
 const PAIRS: [&str; 20] = [
     "--------------------",
     "-B------------------",

@@ -55,7 +55,8 @@ const PAIRS: [&str; 20] = [
     "ddddddddddddddddddmE",
 ];
 
-/// A value of each kind: unit, bool, char, int, text, array, blob, map, function pointer, u8 to u128, i8 to i128, both ranges.
+/// A value of each kind: unit, bool, char, int, text, array, blob, map, function pointer, u8 to
+/// u128, i8 to i128, both ranges.
 pub(super) fn kind(alloc: Global, which: usize) -> Dynamic {
     match which {
         0 => Dynamic::UNIT,

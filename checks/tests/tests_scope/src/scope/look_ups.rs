@@ -37,7 +37,8 @@ fn are_found(scope: &mut Scope, store: &Store, first: usize) -> bool {
     scope.search("x") == Some(first) && scope.search("y").is_none()
 }
 
-/// Adds entries, each `step` names after the one before; `numbers` are those of the names of all entries.
+/// Adds entries, each `step` names after the one before; `numbers` are those of the names of all
+/// entries.
 fn push_many(
     scope: &mut Scope,
     names: &[ImmutableString],
@@ -118,7 +119,8 @@ fn stay_found(
     agree(scope, names, numbers)
 }
 
-/// Two names whose first four bytes and last four are the same, so that they have the same bit in the filter of the index.
+/// Two names with the same first four and last four bytes, so that they have the same bit in the
+/// filter of the index.
 const FIRST: &str = "size_of_first_item";
 
 const SECOND: &str = "size_of_second_item";

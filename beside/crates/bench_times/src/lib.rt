@@ -1,4 +1,5 @@
-//! Workloads over script values, which `beside/bench` times beside the same workloads over rhai's own values.
+//! Workloads over script values, which `beside/bench` compares with the same workloads over rhai's
+//! own values.
 //!
 //! Each takes a number of iterations and returns a checksum, which is compared.
 #![tactic(auto)]

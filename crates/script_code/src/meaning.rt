@@ -3,7 +3,7 @@ ghost use Rattle.std.specs.Prelude.{◌≡◌, ◌<◌, length, IfSome, string_b
 ghost use Rattle.std.specs.List.{HoldsAt};
 ghost use Rattle.script_code.specs.Meaning.{host_number};
 
-use script_values::{Native, native_of};
+use script_natives::{Native, native_of};
 
 /// A function that the host implements, by its name and number of arguments.
 #[derive(Drop)]

@@ -4,9 +4,6 @@
 use crate::host_calls::host_changes;
 use crate::meaning::{HostName, Meaning, meaning_of};
 use script_tree::{Expr, Field, Program, Slot, Step, Term, Variable};
-use script_values::{
-    ArrayFunction, BlobFunction, CharFunction, IntFunction, MapFunction, Native, TextFunction,
-};
 
 /// A variable, in the form that these tests use.
 #[derive(Clone, Copy)]
@@ -37,16 +34,6 @@ pub(crate) fn is_variable(expr: &Expr, slot: Slot) -> bool {
         Some(known) => known == slot,
         None => false,
     }
-}
-
-/// Whether functions of the packages may change their receiver.
-fn may_change(native: Native) -> bool {
-    matches!(native.array, Some(ArrayFunction::Change(_)))
-        || matches!(native.map, Some(MapFunction::Change(_)))
-        || matches!(native.text, Some(TextFunction::Change(_)))
-        || matches!(native.blob, Some(BlobFunction::Change(_)))
-        || matches!(native.int, Some(IntFunction::Change(_)))
-        || matches!(native.character, Some(CharFunction::Change(_)))
 }
 
 impl<'p> Watched<'p> {
@@ -120,7 +107,7 @@ impl<'p> Watched<'p> {
             | Meaning::IsVariable
             | Meaning::IsFunction
             | Meaning::Curry => true,
-            Meaning::Native(native) => !is_first || !may_change(native),
+            Meaning::Native(native) => !is_first || !native.may_change(),
             Meaning::Call | Meaning::Each(_) | Meaning::Search => self.is_plain,
             Meaning::Host(number) => self.is_plain
                 && !(is_first && host_changes(self.host, number)),

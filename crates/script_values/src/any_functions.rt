@@ -6,27 +6,7 @@ use crate::ways::check_ways;
 use rhai_show::{debug_text, display_text};
 use rhai_text::SizeKind;
 use rhai_value::{Dynamic, Store, TypeId};
-
-/// A function on any value.
-#[derive(Clone, Copy)]
-pub enum AnyFunction {
-    /// `type_of()`
-    TypeOf,
-    /// `to_string()`
-    ToString,
-    /// `to_debug()`
-    ToDebug,
-}
-
-/// Finds the function with this name and number of arguments after the value.
-pub(crate) fn any_function(name: &str, count: usize) -> Option<AnyFunction> {
-    match (count, name) {
-        (0, "type_of") => Some(AnyFunction::TypeOf),
-        (0, "to_string") => Some(AnyFunction::ToString),
-        (0, "to_debug") => Some(AnyFunction::ToDebug),
-        _ => None,
-    }
-}
+use script_natives::AnyFunction;
 
 /// Calls a function that reads a value of any type.
 pub(crate) fn ask_any(

@@ -1,13 +1,13 @@
 //! Parts that are removed from arrays.
 
 use crate::argument_values::{Arguments, int, mismatched_range};
-use crate::array_functions::ArrayChange;
 use crate::bounds::{bounds_of, piece_of};
 use crate::faults::FaultKind;
 use crate::resources::Means;
 use crate::walks::{Span, span_at};
 use rhai_packs::arrays;
 use rhai_value::{Array, Dynamic, INT, Store};
+use script_natives::ArrayChange;
 
 /// Returns the items of a range, or a number of them from an index on.
 fn part_of(

@@ -5,18 +5,10 @@ use crate::bounds::{bounds_of, piece_of};
 use crate::faults::FaultKind;
 use crate::walks::{Span, span_at};
 use rhai_value::{Blob, Dynamic, INT, Store};
+use script_natives::ByteOrder;
 
 /// How many bytes an int has.
 const INT_BYTES: usize = 8;
-
-/// Which byte of an int comes first.
-#[derive(Clone, Copy, PartialEq, Eq)]
-pub enum ByteOrder {
-    /// The lowest.
-    Little,
-    /// The highest.
-    Big,
-}
 
 /// The bytes that the arguments select, and the argument after them.
 #[derive(Drop)]

@@ -3,8 +3,9 @@
 use crate::argument_values::Arguments;
 use crate::cost::values_cost;
 use crate::faults::FaultKind;
-use crate::natives::Native;
+use crate::natives::{ask_held, without_arguments};
 use crate::resources::Means;
+use crate::walks::native_cost;
 use rhai_value::{Dynamic, Store, Union};
 
 /// Whether a function of this name is a property, too.
@@ -38,8 +39,8 @@ pub(crate) fn property(
 ) -> Result<Dynamic, FaultKind> {
     if is_property(name) {
         let none = Arguments::none();
-        let native = Native::without_arguments(held, name);
-        if let Some(value) = native.ask_held(means, store, held, &none)? {
+        let native = without_arguments(held, name);
+        if let Some(value) = ask_held(&native, means, store, held, &none)? {
             return Ok(value);
         }
     }
@@ -52,8 +53,8 @@ pub(crate) fn property_cost(means: &Means, store: &Store, held: &Dynamic, name: 
         return 0;
     }
     let none = Arguments::none();
-    let native = Native::without_arguments(held, name);
-    let cost = native.cost(means, store, held, &none, u64::MAX);
+    let native = without_arguments(held, name);
+    let cost = native_cost(&native, means, store, held, &none, u64::MAX);
     cost.unwrap_or(0).saturating_add(made_cost(held, name))
 }
 

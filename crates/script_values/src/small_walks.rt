@@ -2,13 +2,13 @@
 
 use crate::argument_values::Arguments;
 use crate::blob_bytes::bytes_meant;
-use crate::blob_functions::{BlobChange, BlobFunction, BlobQuestion};
-use crate::char_functions::{CharChange, CharFunction, CharQuestion};
 use crate::cost::{bytes_cost, values_cost};
-use crate::int_functions::{IntChange, IntFunction, IntQuestion};
-use crate::range_functions::PointerFunction;
 use crate::walks::{Counting, span_between, span_from};
 use rhai_value::{Blob, FnPtr, INT};
+use script_natives::{
+    BlobChange, BlobFunction, BlobQuestion, CharChange, CharFunction, CharQuestion, IntChange,
+    IntFunction, IntQuestion, PointerFunction,
+};
 
 /// The cost of formatting an int, and of changing the case of a character.
 const TEXT_COST: u64 = 4;

@@ -3,10 +3,10 @@
 use crate::argument_values::{Arguments, text_or_character};
 use crate::cost::{bytes_cost, characters_cost, operations_of_bytes, values_cost};
 use crate::faults::FaultKind;
-use crate::text_functions::{TextChange, TextFunction, TextQuestion};
 use crate::walks::{Counting, key_cost, missing};
 use rhai_text::ImmutableString;
 use rhai_value::{Dynamic, Store};
+use script_natives::{TextChange, TextFunction, TextQuestion};
 
 pub(crate) fn text_cost(
     function: Option<TextFunction>,

@@ -1,18 +1,18 @@
 //! The cost of functions of the packages, in operations.
 
-use crate::any_functions::AnyFunction;
 use crate::argument_values::Arguments;
-use crate::array_functions::{ArrayChange, ArrayFunction, ArrayQuestion};
 use crate::bounds::{bounds_of, piece_of, span_of};
 use crate::cost::{bytes_cost, copies_cost, copy_cost, entries_cost, operations_of, values_cost};
 use crate::faults::FaultKind;
-use crate::map_functions::{MapChange, MapFunction, MapQuestion};
-use crate::natives::Native;
 use crate::resources::Means;
 use crate::small_walks::{blob_cost, char_cost, int_cost, pointer_cost};
 use crate::text_walks::text_cost;
 use crate::ways::{print_cost, walk_cost, walks_cost};
 use rhai_value::{Array, Dynamic, INT, Map, Store, Union};
+use script_natives::{
+    AnyFunction, ArrayChange, ArrayFunction, ArrayQuestion, MapChange, MapFunction, MapQuestion,
+    Native,
+};
 
 /// What counting operations needs besides values.
 #[derive(Clone, Copy)]
@@ -23,44 +23,42 @@ pub(crate) struct Counting<'c> {
     pub(crate) most: u64,
 }
 
-impl Native {
-    /// Counts the operations that a call costs in addition to itself: nothing if that is at most a
-    /// constant; the receiver's own items or bytes if these are moved or searched; the receiver and
-    /// arguments with everything in them if they are compared, printed or copied; as many items or
-    /// bytes as an argument says. The size of the result isn't counted, nor what is dropped. Stops
-    /// counting once the result is more than `most`.
-    /// Errors: what is visited in cells is more than an array may have items; the allocation of a
-    /// list fails.
-    /// Cost: the number of values that are counted.
-    pub fn cost(
-        &self,
-        means: &Means,
-        store: &Store,
-        receiver: &Dynamic,
-        arguments: &Arguments,
-        most: u64,
-    ) -> Result<u64, FaultKind> {
-        let Some(held) = receiver.held(store) else {
-            return Ok(0);
-        };
-        let counting = Counting { means, store, most };
-        let known = match held.parts() {
-            Union::Array(_, _, items) => array_cost(self.array, &counting, items, arguments)?,
-            Union::Map(_, _, map) => map_cost(self.map, &counting, held, map, arguments)?,
-            Union::Str(_, _, text) => text_cost(self.text, &counting, text, arguments)?,
-            Union::Blob(_, _, bytes) => blob_cost(self.blob, &counting, bytes, arguments),
-            Union::Int(_, _, number) => int_cost(self.int, *number),
-            Union::Char(_, _, _) => char_cost(self.character),
-            Union::FnPtr(_, _, pointer) => pointer_cost(self.pointer, pointer),
-            Union::Unit(_, _, _)
-            | Union::Bool(_, _, _)
-            | Union::Variant(_, _, _)
-            | Union::Shared(_, _, _) => None,
-        };
-        match known {
-            Some(cost) => Ok(cost),
-            None => any_cost(self.any, &counting, held),
-        }
+/// Counts the operations that a call costs in addition to itself: nothing if that is at most a
+/// constant; the receiver's own items or bytes if these are moved or searched; the receiver and
+/// arguments with everything in them if they are compared, printed or copied; as many items or
+/// bytes as an argument says. The size of the result isn't counted, nor what is dropped. Stops
+/// counting once the result is more than `most`.
+/// Errors: what is visited in cells is more than an array may have items; the allocation of a
+/// list fails.
+/// Cost: the number of values that are counted.
+pub fn native_cost(
+    native: &Native,
+    means: &Means,
+    store: &Store,
+    receiver: &Dynamic,
+    arguments: &Arguments,
+    most: u64,
+) -> Result<u64, FaultKind> {
+    let Some(held) = receiver.held(store) else {
+        return Ok(0);
+    };
+    let counting = Counting { means, store, most };
+    let known = match held.parts() {
+        Union::Array(_, _, items) => array_cost(native.array, &counting, items, arguments)?,
+        Union::Map(_, _, map) => map_cost(native.map, &counting, held, map, arguments)?,
+        Union::Str(_, _, text) => text_cost(native.text, &counting, text, arguments)?,
+        Union::Blob(_, _, bytes) => blob_cost(native.blob, &counting, bytes, arguments),
+        Union::Int(_, _, number) => int_cost(native.int, *number),
+        Union::Char(_, _, _) => char_cost(native.character),
+        Union::FnPtr(_, _, pointer) => pointer_cost(native.pointer, pointer),
+        Union::Unit(_, _, _)
+        | Union::Bool(_, _, _)
+        | Union::Variant(_, _, _)
+        | Union::Shared(_, _, _) => None,
+    };
+    match known {
+        Some(cost) => Ok(cost),
+        None => any_cost(native.any, &counting, held),
     }
 }
 

@@ -7,13 +7,14 @@ use crate::faults::{FaultKind, check_size, in_use, mismatch};
 use crate::find::part_at;
 use crate::keys::{Key, index_in, name_in};
 use crate::map_functions::check_entry;
-use crate::natives::Native;
+use crate::natives::change_native;
 use crate::reading::PlaceFault;
 use crate::resources::Means;
 use rhai_packs::maps;
 use rhai_target::{ReadPart, calc_index};
 use rhai_text::{ImmutableString, Position, SizeKind};
 use rhai_value::{Array, Dynamic, INT, Map, Part, PlaceError, PlaceErrorKind, Step, Store, Union};
+use script_natives::Native;
 
 /// What is written at a place.
 #[derive(Drop)]
@@ -79,7 +80,7 @@ pub fn change_at(
 ) -> Result<Option<Dynamic>, PlaceFault> {
     let steps = steps_of(means, store, keys)?;
     let done = root.with_place(store, steps.as_slice(), |held, store| {
-        native.change(means, store, held, arguments)
+        change_native(&native, means, store, held, arguments)
     });
     match done {
         Ok(Ok(answer)) => Ok(answer),

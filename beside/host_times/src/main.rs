@@ -1,4 +1,4 @@
-//! The commands of beside/crates/bench_times/src/worlds.rt from Rust, by the crate `rhai-world`.
+//! The commands of beside/crates/bench_times/src/worlds.rs from Rust, by the crate `rhai-world`.
 //!
 //! Usage: host_times time SIDE KIND ROUNDS prints the nanoseconds of ROUNDS rounds, minus those of none, and their checksum;
 //! host_times one SIDE KIND ROUNDS does them once, for valgrind. SIDE is `methods`, or `commands` for `Command` and `Answer`.

@@ -88,6 +88,19 @@ typedef struct RhaiHostScriptStop {
     size_t printed;
     /* How many bytes after these say what went wrong. */
     size_t said;
+    /* What the value of a stop of kind 0 or 7 is, or the first argument at one of kind 2: 0 unit, 1 a boolean, 2 an
+     * int; 6 there is none, or `rhai_host_script_value` or `rhai_host_script_argument` returns it. */
+    uint32_t value_kind;
+    /* What the second argument is. */
+    uint32_t second_kind;
+    /* What the third argument is. */
+    uint32_t third_kind;
+    /* That value or first argument: a boolean as 0 or 1, or an int; else 0. */
+    int64_t value;
+    /* The second argument. */
+    int64_t second;
+    /* The third argument. */
+    int64_t third;
 } RhaiHostScriptStop;
 
 /* How a script ended. The answer is what it printed, followed by what went wrong. */
@@ -257,6 +270,15 @@ uint32_t rhai_host_script_value(RhaiHostHandle *handle, RhaiHostTold *told);
 
 /* Passes the value of these hash bytes to the script, as the result of the host function being called. */
 uint32_t rhai_host_script_answer(RhaiHostHandle *handle, const uint8_t *value, size_t value_len);
+
+/* Passes unit (kind 0), a boolean (1, true unless the number is 0) or an int (2) to the script, as the result of
+ * the host function being called, and continues the run for at most this many operations. */
+uint32_t rhai_host_script_answer_and_go(
+    RhaiHostHandle *handle,
+    uint32_t kind,
+    int64_t number,
+    uint64_t operations,
+    RhaiHostScriptStop *stop);
 
 /* Fails the call of the host function with a text, which the script may catch: it continues then, and the stop
  * is of kind 1. */
@@ -850,9 +872,9 @@ uint32_t rhai_host_variable_name(RhaiHostHandle *handle, size_t number, RhaiHost
 uint32_t rhai_host_variable_value(RhaiHostHandle *handle, size_t number, RhaiHostTold *told);
 
 /* Does nothing: its name is a sum of all that is exported, so that a host of other declarations doesn't link. */
-void rhai_host_stamp_e8e595b8b555eb6c(void);
+void rhai_host_stamp_4e4dc850c2f8c7ba(void);
 
-#define RHAI_HOST_STAMP rhai_host_stamp_e8e595b8b555eb6c
+#define RHAI_HOST_STAMP rhai_host_stamp_4e4dc850c2f8c7ba
 
 #undef RHAI_HOST_ASSERT
 #undef RHAI_HOST_ALIGN

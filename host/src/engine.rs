@@ -10,6 +10,7 @@ mod saved;
 mod scope;
 mod sizes;
 mod standing;
+mod stop;
 mod variables;
 mod watch;
 

@@ -88,6 +88,36 @@ fn functions_of_the_program_are_answered_meanwhile() -> Result<(), EvalError> {
 }
 
 #[test]
+fn a_run_that_pauses_at_a_call_has_its_result() -> Result<(), EvalError> {
+    let mut engine = Engine::new();
+    engine
+        .register_fn("sum", |a: i64, is_added: bool, (): (), b: i64| if is_added { a + b } else { a })
+        .register_fn("is_one", |n: i64| n == 1)
+        .register_fn("nothing", || ())
+        .register_fn("text_of", |n: i64| n.to_string());
+    let ast = engine
+        .compile("let all = []; for n in 0..3 { all.push([sum(n, n > 0, (), 7), is_one(n), nothing(), text_of(n)]); } all")?;
+    let rows = [(0, false, "0"), (8, true, "1"), (9, false, "2")];
+    let row = |(sum, is_one, text): (i64, bool, &str)| {
+        Value::from(Array::from_iter([Value::Int(sum), Value::Bool(is_one), Value::Unit, Value::from(text)]))
+    };
+    let wanted = Value::from(Array::from_iter(rows.map(row)));
+    for operations in [1, 2, 3, 5, 1_000] {
+        let mut scope = Scope::new()?;
+        let mut run = engine.start(&mut scope, &ast)?;
+        let value = loop {
+            match run.go(operations)? {
+                Progress::Done(value) => break value,
+                Progress::Paused => assert!(run.calls().len() == 1 && run.variables(0).is_ok()),
+                Progress::Statement { .. } => panic!("it isn't to stop there"),
+            }
+        };
+        assert_eq!(value, wanted);
+    }
+    Ok(())
+}
+
+#[test]
 fn calls_go_on_by_pieces_too() -> Result<(), EvalError> {
     let engine = Engine::new();
     let ast = engine.compile("seen += 1; let own = 3; fn sum(to) { let sum = 0; for n in 0..to { sum += n; } sum }")?;

@@ -74,12 +74,7 @@ pub(crate) fn tell_value(
             *told = told_of(&Answer::Int(i128::from(number)));
             DONE
         }
-        Ok(Some(Seen::Bytes(bytes))) => {
-            let answer = Answer::Bytes(bytes);
-            *told = told_of(&answer);
-            kept.answer = answer;
-            DONE
-        }
+        Ok(Some(Seen::Bytes(bytes))) => tell_bytes(kept, Ok(Some(bytes)), told),
         Ok(None) => NO_COMMAND,
         Err(_) => OUT_OF_MEMORY,
     }
@@ -150,16 +145,29 @@ pub extern "C" fn rhai_host_script_value(alloc: Global, handle: &mut Handle, tol
     status
 }
 
-fn answer(alloc: Global, engine: &mut Engine, bytes: &[u8]) -> u32 {
-    let value = match read_value(alloc, bytes) {
-        Ok(value) => value,
-        Err(Unread::Form) => return NO_COMMAND,
-        Err(Unread::Memory) => return OUT_OF_MEMORY,
-    };
-    match engine.answer(value) {
+/// Reads a value from its hash bytes.
+/// Errors: the status that says why there is none.
+pub(crate) fn value_in(alloc: Global, bytes: &[u8]) -> Result<Dynamic, u32> {
+    match read_value(alloc, bytes) {
+        Ok(value) => Ok(value),
+        Err(Unread::Form) => Err(NO_COMMAND),
+        Err(Unread::Memory) => Err(OUT_OF_MEMORY),
+    }
+}
+
+/// Returns the status of what may not be possible now.
+pub(crate) fn status_of(done: Result<bool, AllocError>) -> u32 {
+    match done {
         Ok(true) => DONE,
         Ok(false) => NO_COMMAND,
         Err(_) => OUT_OF_MEMORY,
+    }
+}
+
+fn answer(alloc: Global, engine: &mut Engine, bytes: &[u8]) -> u32 {
+    match value_in(alloc, bytes) {
+        Ok(value) => status_of(engine.answer(value)),
+        Err(status) => status,
     }
 }
 
@@ -173,6 +181,57 @@ pub extern "C" fn rhai_host_script_answer(alloc: Global, handle: &mut Handle, va
         return CLOSED;
     };
     let status = answer(alloc, &mut kept.engine, value);
+    handle.put(kept);
+    status
+}
+
+fn answer_and_go(
+    alloc: Global,
+    kept: &mut Kept,
+    answer: Dynamic,
+    operations: u64,
+    stop: &mut ScriptStop,
+) -> u32
+    ensures { KeepsWorld kept.old kept.new }
+{
+    match kept.engine.answer(answer) {
+        Ok(true) => {
+            let step = kept.engine.go(operations);
+            tell_step(alloc, kept, stop, step);
+            DONE
+        }
+        Ok(false) => NO_COMMAND,
+        Err(_) => OUT_OF_MEMORY,
+    }
+}
+
+/// Passes unit (kind 0), a boolean (1, true unless the number is 0) or an int (2) to the script,
+/// as the result of the host function being called, and continues the run for at most this many
+/// operations.
+#[unsafe(no_mangle)]
+pub extern "C" fn rhai_host_script_answer_and_go(
+    alloc: Global,
+    handle: &mut Handle,
+    kind: u32,
+    number: i64,
+    operations: u64,
+    stop: &mut ScriptStop,
+) -> u32
+    ensures { OnScripts result (content handle.old) (content handle.new) }
+{
+    let Some(mut kept) = handle.take(alloc) else {
+        return CLOSED;
+    };
+    let answer = match kind {
+        0 => Some(Dynamic::UNIT),
+        1 => Some(Dynamic::from_bool(number != 0)),
+        2 => Some(Dynamic::from_int(number)),
+        _ => None,
+    };
+    let status = match answer {
+        Some(answer) => answer_and_go(alloc, &mut kept, answer, operations, stop),
+        None => NO_COMMAND,
+    };
     handle.put(kept);
     status
 }

@@ -4,15 +4,17 @@ ghost use Rattle.std.specs.Prelude.{◌≡◌};
 ghost use Rattle.rhai_host.specs.Content.{content};
 ghost use Rattle.rhai_host.specs.Engines.{KeepsWorld, OnScripts};
 
+use crate::answering::{status_of, value_in};
 use crate::handle::Handle;
 use crate::handle::kept::Kept;
 use crate::perform::{CLOSED, DONE, NO_COMMAND, OUT_OF_MEMORY};
 use crate::texts::text_in;
 use rhai_run::{Answer, Bytes};
 use rhai_text::{Limits, Position};
+use rhai_value::{Array, Dynamic, INT, Union};
 use script_code::HostName;
-use script_engine::{Engine, Step, Unread, read_value};
-use script_run::{RunLimits, ScriptError};
+use script_engine::{Engine, Step};
+use script_run::{Run, RunLimits, ScriptError};
 use script_syntax::SyntaxError;
 use std::alloc::{AllocError, Global};
 
@@ -39,6 +41,81 @@ pub struct ScriptStop {
     pub printed: usize,
     /// How many bytes after these say what went wrong.
     pub said: usize,
+    /// What the value of a stop of kind 0 or 7 is, or the first argument at one of kind 2: 0 unit,
+    /// 1 a boolean, 2 an int; 6 there is none, or `rhai_host_script_value` or
+    /// `rhai_host_script_argument` returns it.
+    pub value_kind: u32,
+    /// What the second argument is.
+    pub second_kind: u32,
+    /// What the third argument is.
+    pub third_kind: u32,
+    /// That value or first argument: a boolean as 0 or 1, or an int; else 0.
+    pub value: i64,
+    /// The second argument.
+    pub second: i64,
+    /// The third argument.
+    pub third: i64,
+}
+
+/// A value as a stop reports it: its kind, and a boolean or an int.
+#[derive(Clone, Copy)]
+struct Scalar {
+    kind: u32,
+    number: INT,
+}
+
+/// No value, or one that a stop doesn't report.
+const NO_SCALAR: Scalar = Scalar { kind: 6, number: 0 };
+
+fn scalar_of(value: &Dynamic) -> Scalar {
+    match value.parts() {
+        Union::Unit(_, _, _) => Scalar { kind: 0, number: 0 },
+        Union::Bool(_, _, truth) => Scalar {
+            kind: 1,
+            number: INT::from(*truth),
+        },
+        Union::Int(_, _, number) => Scalar {
+            kind: 2,
+            number: *number,
+        },
+        Union::Str(_, _, _)
+        | Union::Char(_, _, _)
+        | Union::Blob(_, _, _)
+        | Union::Array(_, _, _)
+        | Union::Map(_, _, _)
+        | Union::FnPtr(_, _, _)
+        | Union::Variant(_, _, _)
+        | Union::Shared(_, _, _) => NO_SCALAR,
+    }
+}
+
+fn argument_of(run: &Run, number: usize) -> Scalar {
+    match run.argument(number) {
+        Some(argument) => scalar_of(argument),
+        None => NO_SCALAR,
+    }
+}
+
+/// Reports the host function being called, and its first arguments.
+fn tell_call(run: &Run, function: u32, stop: &mut ScriptStop) {
+    stop.function = function;
+    stop.arguments = run.arguments();
+    let first = argument_of(run, 0);
+    stop.value_kind = first.kind;
+    stop.value = first.number;
+    let second = argument_of(run, 1);
+    stop.second_kind = second.kind;
+    stop.second = second.number;
+    let third = argument_of(run, 2);
+    stop.third_kind = third.kind;
+    stop.third = third.number;
+}
+
+/// Reports the value of a run or a function.
+fn tell_scalar(value: &Dynamic, stop: &mut ScriptStop) {
+    let scalar = scalar_of(value);
+    stop.value_kind = scalar.kind;
+    stop.value = scalar.number;
 }
 
 /// Reports a stop of this kind at a position, with what was printed and the message, as far as the
@@ -71,6 +148,12 @@ pub(crate) fn tell_stop(
         operations,
         printed,
         said,
+        value_kind: 6,
+        second_kind: 6,
+        third_kind: 6,
+        value: 0,
+        second: 0,
+        third: 0,
     };
     if !text.is_empty() {
         kept.answer = Answer::Bytes(Bytes::new(text.into_bytes()));
@@ -91,16 +174,21 @@ pub(crate) fn tell_step(alloc: Global, kept: &mut Kept, stop: &mut ScriptStop, s
 {
     let place = standing(&kept.engine);
     match step {
-        Step::Done => tell_stop(kept, stop, 0, Position::NONE, ""),
+        Step::Done => {
+            tell_stop(kept, stop, 0, Position::NONE, "");
+            tell_scalar(kept.engine.value(), stop);
+        }
         Step::Paused => tell_stop(kept, stop, 1, place, ""),
         Step::Statement => tell_stop(kept, stop, 3, place, ""),
         Step::Memory => tell_stop(kept, stop, 4, place, ""),
-        Step::Answered => tell_stop(kept, stop, 7, place, ""),
+        Step::Answered => {
+            tell_stop(kept, stop, 7, place, "");
+            tell_scalar(kept.engine.value(), stop);
+        }
         Step::Calls(number) => {
             tell_stop(kept, stop, 2, place, "");
-            stop.function = number;
             if let Some(run) = kept.engine.run() {
-                stop.arguments = run.arguments();
+                tell_call(run, number, stop);
             }
         }
         Step::Fault(fault) => {
@@ -253,11 +341,7 @@ pub extern "C" fn rhai_host_script_begin(
         operations: u64::MAX,
         calls,
     };
-    let status = match kept.engine.begin(&limits, with_body) {
-        Ok(true) => DONE,
-        Ok(false) => NO_COMMAND,
-        Err(_) => OUT_OF_MEMORY,
-    };
+    let status = status_of(kept.engine.begin(&limits, with_body));
     handle.put(kept);
     status
 }
@@ -298,22 +382,22 @@ pub extern "C" fn rhai_host_script_go(
     DONE
 }
 
+/// Reads the arguments of a call from the hash bytes of an array of them.
+/// Errors: the status that says why there are none.
+pub(crate) fn arguments_in(alloc: Global, engine: &Engine, bytes: &[u8]) -> Result<Array, u32> {
+    match value_in(alloc, bytes)?.into_array(alloc, engine.store()) {
+        Ok(arguments) => Ok(arguments),
+        Err(_) => Err(NO_COMMAND),
+    }
+}
+
 fn call(alloc: Global, engine: &mut Engine, name: &[u8], arguments: &[u8]) -> u32 {
     let Some(name) = text_in(name) else {
         return NO_COMMAND;
     };
-    let arguments = match read_value(alloc, arguments) {
-        Ok(arguments) => arguments,
-        Err(Unread::Form) => return NO_COMMAND,
-        Err(Unread::Memory) => return OUT_OF_MEMORY,
-    };
-    let Ok(arguments) = arguments.into_array(alloc, engine.store()) else {
-        return NO_COMMAND;
-    };
-    match engine.call(name, arguments.as_slice()) {
-        Ok(true) => DONE,
-        Ok(false) => NO_COMMAND,
-        Err(_) => OUT_OF_MEMORY,
+    match arguments_in(alloc, engine, arguments) {
+        Ok(arguments) => status_of(engine.call(name, arguments)),
+        Err(status) => status,
     }
 }
 

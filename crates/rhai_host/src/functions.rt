@@ -3,15 +3,15 @@
 ghost use Rattle.rhai_host.specs.Content.{content};
 ghost use Rattle.rhai_host.specs.Engines.{AnswersValue, KeepsWorld, OnScripts};
 
-use crate::answering::{seen_of, tell_value};
-use crate::engine::{ScriptStop, tell_step, tell_stop};
+use crate::answering::{seen_of, status_of, tell_value, value_in};
+use crate::engine::{ScriptStop, arguments_in, tell_step, tell_stop};
 use crate::handle::Handle;
 use crate::handle::kept::Kept;
 use crate::perform::{CLOSED, DONE, NO_COMMAND, OUT_OF_MEMORY};
 use crate::texts::text_in;
 use crate::told::Told;
 use rhai_text::Position;
-use script_engine::{Engine, Unread, read_value};
+use script_engine::Engine;
 use std::alloc::{AllocError, Global};
 
 fn keep(engine: &mut Engine, source: u32, at: usize, number: &mut usize) -> u32 {
@@ -97,11 +97,7 @@ pub extern "C" fn rhai_host_function_let_go(
     let Some(mut kept) = handle.take(alloc) else {
         return CLOSED;
     };
-    let status = if kept.engine.let_go(number) {
-        DONE
-    } else {
-        NO_COMMAND
-    };
+    let status = status_of(Ok(kept.engine.let_go(number)));
     handle.put(kept);
     status
 }
@@ -138,26 +134,15 @@ pub extern "C" fn rhai_host_function_answer(
     let Some(mut kept) = handle.take(alloc) else {
         return CLOSED;
     };
-    let status = match kept.engine.answer_kept(number) {
-        Ok(true) => DONE,
-        Ok(false) => NO_COMMAND,
-        Err(_) => OUT_OF_MEMORY,
-    };
+    let status = status_of(kept.engine.answer_kept(number));
     handle.put(kept);
     status
 }
 
 fn change(alloc: Global, engine: &mut Engine, value: &[u8]) -> u32 {
-    match read_value(alloc, value) {
-        Ok(value) => {
-            if engine.change(value) {
-                DONE
-            } else {
-                NO_COMMAND
-            }
-        }
-        Err(Unread::Form) => NO_COMMAND,
-        Err(Unread::Memory) => OUT_OF_MEMORY,
+    match value_in(alloc, value) {
+        Ok(value) => status_of(Ok(engine.change(value))),
+        Err(status) => status,
     }
 }
 
@@ -178,18 +163,9 @@ pub extern "C" fn rhai_host_script_change(alloc: Global, handle: &mut Handle, va
 }
 
 fn call(alloc: Global, engine: &mut Engine, number: usize, arguments: &[u8]) -> u32 {
-    let arguments = match read_value(alloc, arguments) {
-        Ok(arguments) => arguments,
-        Err(Unread::Form) => return NO_COMMAND,
-        Err(Unread::Memory) => return OUT_OF_MEMORY,
-    };
-    let Ok(arguments) = arguments.into_array(alloc, engine.store()) else {
-        return NO_COMMAND;
-    };
-    match engine.call_kept(number, arguments.as_slice()) {
-        Ok(true) => DONE,
-        Ok(false) => NO_COMMAND,
-        Err(_) => OUT_OF_MEMORY,
+    match arguments_in(alloc, engine, arguments) {
+        Ok(arguments) => status_of(engine.call_kept(number, arguments.as_slice())),
+        Err(status) => status,
     }
 }
 
@@ -217,10 +193,9 @@ pub extern "C" fn rhai_host_function_call(
 fn throw(alloc: Global, kept: &mut Kept, value: &[u8], stop: &mut ScriptStop) -> u32
     ensures { KeepsWorld kept.old kept.new }
 {
-    let value = match read_value(alloc, value) {
+    let value = match value_in(alloc, value) {
         Ok(value) => value,
-        Err(Unread::Form) => return NO_COMMAND,
-        Err(Unread::Memory) => return OUT_OF_MEMORY,
+        Err(status) => return status,
     };
     match kept.engine.throw(value) {
         Some(step) => tell_step(alloc, kept, stop, step),

@@ -3,4 +3,4 @@
 /// Does nothing: its name is a sum of all that is exported, so that a host of other declarations
 /// doesn't link.
 #[unsafe(no_mangle)]
-pub extern "C" fn rhai_host_stamp_e8e595b8b555eb6c() {}
+pub extern "C" fn rhai_host_stamp_4e4dc850c2f8c7ba() {}

@@ -4,13 +4,13 @@ ghost use Rattle.std.specs.Prelude.{◌≡◌};
 ghost use Rattle.rhai_host.specs.Content.{content};
 ghost use Rattle.rhai_host.specs.Engines.{AnswersBytes, AnswersValue, OnScripts};
 
-use crate::answering::{seen_of, tell_bytes, tell_value, text_bytes};
+use crate::answering::{seen_of, status_of, tell_bytes, tell_value, text_bytes, value_in};
 use crate::handle::Handle;
 use crate::perform::{CLOSED, DONE, NO_COMMAND, OUT_OF_MEMORY};
 use crate::texts::text_in;
 use crate::told::Told;
 use rhai_run::Bytes;
-use script_engine::{Engine, Unread, read_value};
+use script_engine::Engine;
 use std::alloc::{AllocError, Global};
 
 fn declare(alloc: Global, engine: &mut Engine, name: &[u8], value: &[u8]) -> u32 {
@@ -20,13 +20,12 @@ fn declare(alloc: Global, engine: &mut Engine, name: &[u8], value: &[u8]) -> u32
     if engine.run().is_some() {
         return NO_COMMAND;
     }
-    match read_value(alloc, value) {
+    match value_in(alloc, value) {
         Ok(value) => match engine.scope_mut().push(name, value) {
             Ok(()) => DONE,
             Err(_) => OUT_OF_MEMORY,
         },
-        Err(Unread::Form) => NO_COMMAND,
-        Err(Unread::Memory) => OUT_OF_MEMORY,
+        Err(status) => status,
     }
 }
 
@@ -49,16 +48,9 @@ pub extern "C" fn rhai_host_variable_push(
 }
 
 fn write(alloc: Global, engine: &mut Engine, number: usize, value: &[u8]) -> u32 {
-    match read_value(alloc, value) {
-        Ok(value) => {
-            if engine.scope_mut().set(number, value) {
-                DONE
-            } else {
-                NO_COMMAND
-            }
-        }
-        Err(Unread::Form) => NO_COMMAND,
-        Err(Unread::Memory) => OUT_OF_MEMORY,
+    match value_in(alloc, value) {
+        Ok(value) => status_of(Ok(engine.scope_mut().set(number, value))),
+        Err(status) => status,
     }
 }
 

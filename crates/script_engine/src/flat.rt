@@ -12,6 +12,9 @@ use std::{mem, str};
 /// The kind of an int.
 const INT_KIND: u8 = 4;
 
+/// How many bytes an int has, with its kind.
+const INT_SIZE: usize = 9;
+
 /// Why bytes are not a value.
 #[derive(Clone, Copy, Debug, PartialEq, Eq)]
 pub enum Unread {
@@ -251,6 +254,9 @@ fn read_inside(
             }
             continue;
         }
+        if read_ints(bytes, &open, &mut values)? {
+            continue;
+        }
         read_key(alloc, bytes, &mut open)?;
         match read_head(alloc, bytes, cells)? {
             Head::Whole(value) => values.push(value)?,
@@ -266,6 +272,38 @@ fn read_inside(
         }
     }
     Err(Unread::Form)
+}
+
+/// Reads the ints at the front, as far as they are the next items of an array: the most frequent
+/// items. Returns whether there were any.
+fn read_ints(
+    bytes: &mut Bytes,
+    open: &Vec<Open>,
+    values: &mut Vec<Dynamic>,
+) -> Result<bool, Unread> {
+    let Some(
+        Open {
+            kind: Kind::Array,
+            first,
+            count,
+            ..
+        },
+    ) = open.last()
+    else {
+        return Ok(false);
+    };
+    let before = values.len();
+    for _ in before.saturating_sub(*first)..*count {
+        let Some((front, rest)) = bytes.rest.split_at_checked(INT_SIZE) else {
+            break;
+        };
+        let Some(number) = int_in(front) else {
+            break;
+        };
+        values.push(Dynamic::from_int(number))?;
+        bytes.rest = rest;
+    }
+    Ok(values.len() > before)
 }
 
 /// Whether all children of the innermost value were read.

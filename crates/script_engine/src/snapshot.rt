@@ -426,15 +426,15 @@ impl Engine {
         let alloc = self.alloc;
         let mut out = Vec::new(alloc);
         let mut cells = Cells::new(alloc);
-        match (&self.program, &self.run) {
-            (Some(program), Some(run)) => {
+        match &self.program {
+            Some(program) if self.is_running => {
                 out.push(MORE)?;
-                for number in 0..run.depth() {
-                    add_function(alloc, &mut out, &mut cells, program, run, number)?;
+                for number in 0..self.run.depth() {
+                    add_function(alloc, &mut out, &mut cells, program, &self.run, number)?;
                 }
                 out.push(END)?;
             }
-            (None, _) | (_, None) => {
+            Some(_) | None => {
                 out.push(END)?;
                 add_variables(alloc, &mut out, &mut cells, &self.scope)?;
             }

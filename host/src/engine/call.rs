@@ -1,7 +1,7 @@
 //! Calls of host functions, while the script waits.
 use super::function::{Found, Standing};
 use super::functions::{Given, Refused};
-use super::scope::{Stop, Went};
+use super::stop::{Stop, Went};
 use super::watch::Used;
 use super::{Arguments, Engine, EvalError, Function, Scope, Wanted};
 use crate::value::Value;

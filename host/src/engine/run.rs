@@ -1,7 +1,7 @@
 //! Paused runs, and their execution in pieces.
 use super::error::MOST_CALLS;
 use super::function::{Found, Standing};
-use super::scope::Stop;
+use super::stop::Stop;
 use super::watch::Used;
 use super::{Ast, Call, CallPlace, Engine, EvalError, Function, Scope, Wanted};
 use crate::memory::Memory;
@@ -224,6 +224,7 @@ impl Run<'_> {
         loop {
             self.used.check(&self.engine.watch)?;
             if self.used.operations >= until {
+                self.scope.settle()?;
                 return Ok(Came::Paused);
             }
             let went = self.scope.go(self.used.granted(&self.engine.watch, until))?;

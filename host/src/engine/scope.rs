@@ -1,5 +1,6 @@
 //! The variables of scripts, and runs over them.
 use super::function::{Found, Ledger, Standing};
+use super::stop::Scalar;
 use super::{Ast, Engine, EvalError, Wanted};
 use crate::error::{done, Error};
 use crate::limits::Limits;
@@ -38,44 +39,17 @@ pub struct Scope {
     compiled: Option<(u64, u64)>,
     /// The functions that it keeps for the program.
     pub(super) ledger: Arc<Ledger>,
-}
-
-/// How a run got on.
-pub(crate) struct Went {
-    /// What it printed.
-    pub(crate) printed: String,
-    /// How many operations it has used so far.
-    pub(crate) operations: u64,
-    /// Where it is; 0 if it is done.
-    pub(crate) line: u32,
-    pub(crate) column: u32,
-    pub(crate) stop: Stop,
-}
-
-/// Why a run stopped.
-pub(crate) enum Stop {
-    Done,
-    Paused,
-    Statement,
-    Calls {
-        function: usize,
-    },
-    Memory,
-    Fault {
-        message: String,
-    },
-    /// A function called from a host function is done, and the host function still waits.
-    Answered,
-    /// Such a function failed, and the host function still waits.
-    Refused {
-        message: String,
-    },
+    /// Where its run stopped last.
+    pub(super) stop: ScriptStop,
+    /// The result of a host function, which the run gets when it continues.
+    pub(super) waiting: Option<Scalar>,
 }
 
 impl Scope {
     /// Makes a scope without variables.
     pub fn new() -> Result<Scope, EvalError> {
-        Ok(Scope { world: World::new(Limits::default())?, compiled: None, ledger: Arc::default() })
+        let (stop, ledger) = (ScriptStop::default(), Arc::default());
+        Ok(Scope { world: World::new(Limits::default())?, compiled: None, ledger, stop, waiting: None })
     }
 
     /// Declares a variable.
@@ -267,85 +241,12 @@ impl Scope {
         Ok(done(sys::script_stop_at_statements(&self.world.handle, stops))?)
     }
 
-    /// Continues the run for at most this many operations.
-    pub(crate) fn go(&mut self, operations: u64) -> Result<Went, EvalError> {
-        let mut stop = ScriptStop::default();
-        done(sys::script_go(&self.world.handle, operations, &mut stop))?;
-        self.went(&stop)
-    }
-
-    fn went(&self, stop: &ScriptStop) -> Result<Went, EvalError> {
-        let (printed, message) = self.texts(stop)?;
-        let ScriptStop { kind, function, line, column, operations, .. } = *stop;
-        let stop = match kind {
-            0 => Stop::Done,
-            1 => Stop::Paused,
-            2 => Stop::Calls { function: function as usize },
-            3 => Stop::Statement,
-            4 => Stop::Memory,
-            5 => Stop::Fault { message },
-            7 => Stop::Answered,
-            8 => Stop::Refused { message },
-            _ => return Err(EvalError::Unexpected),
-        };
-        Ok(Went { printed, operations, line, column, stop })
-    }
-
-    /// Returns the value of the run.
-    pub(crate) fn last_value(&self) -> Result<Value, EvalError> {
-        let mut told = Told::default();
-        let status = sys::script_value(&self.world.handle, &mut told);
-        self.value_told(status, &told)
-    }
-
-    /// Returns an argument of the registered function being called.
-    pub(crate) fn argument(&self, number: usize) -> Result<Value, EvalError> {
-        let mut told = Told::default();
-        let status = sys::script_argument(&self.world.handle, number, &mut told);
-        self.value_told(status, &told)
-    }
-
-    /// Passes a value to the script that called a registered function.
-    pub(crate) fn answer(&mut self, value: &Value) -> Result<(), EvalError> {
-        Ok(done(value.with_bytes(|bytes| sys::script_answer(&self.world.handle, bytes))?)?)
-    }
-
-    /// Fails the call of a registered function: either the script catches the error and continues,
-    /// which is reported as a pause, or the run ends.
-    pub(crate) fn refuse(&mut self, why: &str) -> Result<Went, EvalError> {
-        let mut stop = ScriptStop::default();
-        done(sys::script_refuse(&self.world.handle, why.as_bytes(), &mut stop))?;
-        self.went(&stop)
-    }
-
-    /// Fails the call with a value, as if the script had thrown it.
-    pub(crate) fn throw(&mut self, value: &Value) -> Result<Went, EvalError> {
-        let mut stop = ScriptStop::default();
-        done(value.with_bytes(|bytes| sys::script_throw(&self.world.handle, bytes, &mut stop))?)?;
-        self.went(&stop)
-    }
-
-    /// Replaces the first argument of the registered function being called.
-    pub(crate) fn change(&mut self, value: &Value) -> Result<(), EvalError> {
-        Ok(done(value.with_bytes(|bytes| sys::script_change(&self.world.handle, bytes))?)?)
-    }
-
     /// Ends the run, if there is one: the scope has its variables back, without a limit on memory.
     pub(crate) fn end(&mut self) -> Result<(), EvalError> {
+        self.waiting = None;
         self.let_go();
         self.world.set_max_memory(None);
         Ok(done(sys::script_end(&self.world.handle))?)
-    }
-
-    /// What a run printed, and the text of why it stopped.
-    fn texts(&self, stop: &ScriptStop) -> Result<(String, String), EvalError> {
-        if stop.printed == 0 && stop.said == 0 {
-            return Ok((String::new(), String::new()));
-        }
-        let mut printed = self.world.text_of(false, (stop.printed + stop.said) as u64)?;
-        let message = printed.get(stop.printed..).ok_or(EvalError::Unexpected)?.to_owned();
-        printed.truncate(stop.printed);
-        Ok((printed, message))
     }
 }
 

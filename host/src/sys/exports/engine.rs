@@ -25,6 +25,20 @@ pub struct ScriptStop {
     pub printed: usize,
     /// How many bytes after these say what went wrong.
     pub said: usize,
+    /// What the value of a stop of kind 0 or 7 is, or the first argument at one of kind 2: 0 unit,
+    /// 1 a boolean, 2 an int; 6 there is none, or `rhai_host_script_value` or
+    /// `rhai_host_script_argument` returns it.
+    pub value_kind: u32,
+    /// What the second argument is.
+    pub second_kind: u32,
+    /// What the third argument is.
+    pub third_kind: u32,
+    /// That value or first argument: a boolean as 0 or 1, or an int; else 0.
+    pub value: i64,
+    /// The second argument.
+    pub second: i64,
+    /// The third argument.
+    pub third: i64,
 }
 
 unsafe extern "C" {

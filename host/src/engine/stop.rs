@@ -1,0 +1,212 @@
+//! How a run continues, and why it stops.
+use super::{EvalError, Scope};
+use crate::error::done;
+use crate::sys::{self, ScriptStop, Told};
+use crate::value::Value;
+
+/// How a run got on.
+pub(crate) struct Went {
+    /// What it printed.
+    pub(crate) printed: String,
+    /// How many operations it has used so far.
+    pub(crate) operations: u64,
+    /// Where it is; 0 if it is done.
+    pub(crate) line: u32,
+    pub(crate) column: u32,
+    pub(crate) stop: Stop,
+}
+
+/// Why a run stopped.
+pub(crate) enum Stop {
+    Done,
+    Paused,
+    Statement,
+    Calls {
+        function: usize,
+    },
+    Memory,
+    Fault {
+        message: String,
+    },
+    /// A function called from a host function is done, and the host function still waits.
+    Answered,
+    /// Such a function failed, and the host function still waits.
+    Refused {
+        message: String,
+    },
+}
+
+/// A value that crosses in numbers.
+#[derive(Clone, Copy)]
+pub(super) enum Scalar {
+    Unit,
+    Bool(bool),
+    Int(i64),
+}
+
+impl Scalar {
+    /// Returns the value that the library reports in these numbers, if it reports one.
+    fn reported(kind: u32, number: i64) -> Option<Value> {
+        match kind {
+            0 => Some(Value::Unit),
+            1 => Some(Value::Bool(number != 0)),
+            2 => Some(Value::Int(number)),
+            _ => None,
+        }
+    }
+
+    fn of(value: &Value) -> Option<Scalar> {
+        match value {
+            Value::Unit => Some(Scalar::Unit),
+            Value::Bool(truth) => Some(Scalar::Bool(*truth)),
+            Value::Int(number) => Some(Scalar::Int(*number)),
+            Value::Char(_)
+            | Value::Text(_)
+            | Value::Array(_)
+            | Value::Blob(_)
+            | Value::Map(_)
+            | Value::FnPtr(..)
+            | Value::U8(_)
+            | Value::U16(_)
+            | Value::U32(_)
+            | Value::U64(_)
+            | Value::U128(_)
+            | Value::I8(_)
+            | Value::I16(_)
+            | Value::I32(_)
+            | Value::I128(_)
+            | Value::Range(..)
+            | Value::RangeWithEnd(..) => None,
+        }
+    }
+
+    fn value(self) -> Value {
+        match self {
+            Scalar::Unit => Value::Unit,
+            Scalar::Bool(truth) => Value::Bool(truth),
+            Scalar::Int(number) => Value::Int(number),
+        }
+    }
+
+    /// Returns the numbers in which the library takes the value.
+    fn numbers(self) -> (u32, i64) {
+        match self {
+            Scalar::Unit => (0, 0),
+            Scalar::Bool(truth) => (1, i64::from(truth)),
+            Scalar::Int(number) => (2, number),
+        }
+    }
+}
+
+/// How a run of the scope continues.
+impl Scope {
+    /// Continues the run for at most this many operations, with the result that waits for it.
+    pub(super) fn go(&mut self, operations: u64) -> Result<Went, EvalError> {
+        let handle = &self.world.handle;
+        done(match self.waiting.take().map(Scalar::numbers) {
+            Some((kind, number)) => sys::script_answer_and_go(handle, kind, number, operations, &mut self.stop),
+            None => sys::script_go(handle, operations, &mut self.stop),
+        })?;
+        self.went()
+    }
+
+    /// Passes the result that waits to the run, which doesn't continue yet.
+    pub(super) fn settle(&mut self) -> Result<(), EvalError> {
+        match self.waiting.take() {
+            Some(scalar) => self.pass(&scalar.value()),
+            None => Ok(()),
+        }
+    }
+
+    fn went(&self) -> Result<Went, EvalError> {
+        let (printed, message) = self.texts(&self.stop)?;
+        let ScriptStop { kind, function, line, column, operations, .. } = self.stop;
+        let stop = match kind {
+            0 => Stop::Done,
+            1 => Stop::Paused,
+            2 => Stop::Calls { function: function as usize },
+            3 => Stop::Statement,
+            4 => Stop::Memory,
+            5 => Stop::Fault { message },
+            7 => Stop::Answered,
+            8 => Stop::Refused { message },
+            _ => return Err(EvalError::Unexpected),
+        };
+        Ok(Went { printed, operations, line, column, stop })
+    }
+
+    /// What was printed, and what went wrong.
+    pub(super) fn texts(&self, stop: &ScriptStop) -> Result<(String, String), EvalError> {
+        let ScriptStop { printed, said, .. } = *stop;
+        if printed == 0 && said == 0 {
+            return Ok((String::new(), String::new()));
+        }
+        let mut text = self.world.text_of(false, (printed + said) as u64)?;
+        let message = text.get(printed..).ok_or(EvalError::Unexpected)?.to_owned();
+        text.truncate(printed);
+        Ok((text, message))
+    }
+
+    /// Returns the value of the run, or of the function that has just returned.
+    pub(super) fn last_value(&self) -> Result<Value, EvalError> {
+        if let ScriptStop { kind: 0 | 7, value_kind, value, .. } = self.stop {
+            if let Some(value) = Scalar::reported(value_kind, value) {
+                return Ok(value);
+            }
+        }
+        let mut told = Told::default();
+        let status = sys::script_value(&self.world.handle, &mut told);
+        self.value_told(status, &told)
+    }
+
+    /// Returns an argument of the registered function being called.
+    pub(super) fn argument(&self, number: usize) -> Result<Value, EvalError> {
+        if let Some(value) = self.reported_argument(number) {
+            return Ok(value);
+        }
+        let mut told = Told::default();
+        let status = sys::script_argument(&self.world.handle, number, &mut told);
+        self.value_told(status, &told)
+    }
+
+    fn reported_argument(&self, number: usize) -> Option<Value> {
+        let ScriptStop { kind: 2, value_kind, value, second_kind, second, third_kind, third, .. } = self.stop else {
+            return None;
+        };
+        let (kind, number) = *[(value_kind, value), (second_kind, second), (third_kind, third)].get(number)?;
+        Scalar::reported(kind, number)
+    }
+
+    /// Passes a value to the script that called a registered function, at the latest when it
+    /// continues.
+    pub(super) fn answer(&mut self, value: &Value) -> Result<(), EvalError> {
+        self.waiting = Scalar::of(value);
+        match self.waiting {
+            Some(_) => Ok(()),
+            None => self.pass(value),
+        }
+    }
+
+    fn pass(&self, value: &Value) -> Result<(), EvalError> {
+        Ok(done(value.with_bytes(|bytes| sys::script_answer(&self.world.handle, bytes))?)?)
+    }
+
+    /// Fails the call of a registered function: either the script catches the error and continues,
+    /// which is reported as a pause, or the run ends.
+    pub(super) fn refuse(&mut self, why: &str) -> Result<Went, EvalError> {
+        done(sys::script_refuse(&self.world.handle, why.as_bytes(), &mut self.stop))?;
+        self.went()
+    }
+
+    /// Fails the call with a value, as if the script had thrown it.
+    pub(super) fn throw(&mut self, value: &Value) -> Result<Went, EvalError> {
+        let (handle, stop) = (&self.world.handle, &mut self.stop);
+        done(value.with_bytes(|bytes| sys::script_throw(handle, bytes, stop))?)?;
+        self.went()
+    }
+
+    /// Replaces the first argument of the registered function being called.
+    pub(super) fn change(&mut self, value: &Value) -> Result<(), EvalError> {
+        Ok(done(value.with_bytes(|bytes| sys::script_change(&self.world.handle, bytes))?)?)
+    }
+}

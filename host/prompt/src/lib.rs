@@ -25,6 +25,7 @@
 #![deny(missing_docs)]
 
 mod arguments;
+mod cells;
 mod lines;
 mod paint;
 mod program;

@@ -170,13 +170,27 @@ impl Prompt {
         }
     }
 
+    fn lists(&mut self, lines: Result<String, String>) -> io::Result<()> {
+        match lines {
+            Ok(lines) => write!(io::stdout().lock(), "{lines}"),
+            Err(why) => {
+                self.complains(&why);
+                Ok(())
+            }
+        }
+    }
+
     /// Does a command; returns `false` if it ends the prompt.
     fn does(&mut self, command: &Command<'_>) -> io::Result<bool> {
         match command {
-            Command::Scope => match self.session.variables() {
-                Ok(lines) => write!(io::stdout().lock(), "{lines}")?,
-                Err(why) => self.complains(&why),
-            },
+            Command::Scope => {
+                let lines = self.session.variables();
+                self.lists(lines)?;
+            }
+            Command::Cells => {
+                let lines = self.session.cells();
+                self.lists(lines)?;
+            }
             Command::Load(file) => match read(file) {
                 Ok(text) => self.runs(&text)?,
                 Err(error) => self.complains(&shown(&format!("{}: {error}", file.display()))),

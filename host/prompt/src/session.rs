@@ -1,5 +1,6 @@
 //! A prompt's engine, variables and functions.
 use crate::arguments::Budgets;
+use crate::cells::cells;
 use crate::report::report;
 use crate::scan::{functions, Function};
 use rhai_world::{Engine, Error, EvalError, Limits, Scope, Value, World};
@@ -10,6 +11,7 @@ use std::path::Path;
 #[derive(Debug, PartialEq, Eq)]
 pub enum Command<'a> {
     Scope,
+    Cells,
     Load(&'a Path),
     Help,
     Quit,
@@ -22,6 +24,7 @@ pub const HELP: &str = "\
 A line is a script; one with an open bracket or comment goes on with the next line, and `:drop` drops it.
 Variables and functions stay. A closure is called by the script that made it alone.
 :scope      the variables
+:cells      what variables and closures share
 :load FILE  runs a file
 :help       this page
 :quit       ends
@@ -34,6 +37,7 @@ impl Command<'_> {
         let (name, rest) = words.split_once(' ').unwrap_or((words, ""));
         Some(match (name, rest.trim()) {
             ("scope", "") => Command::Scope,
+            ("cells", "") => Command::Cells,
             ("load", file) if !file.is_empty() => Command::Load(Path::new(file)),
             ("help", "") => Command::Help,
             ("quit", "") => Command::Quit,
@@ -95,11 +99,18 @@ impl Session {
         Ok(lines)
     }
 
+    /// Lists what variables and closures share, one a line.
+    ///
+    /// Errors: the message to show.
+    pub fn cells(&self) -> Result<String, String> {
+        self.scope.snapshot().map(|snapshot| cells(&snapshot)).map_err(|error| error.to_string())
+    }
+
     /// Returns the completions of a line.
     pub fn words(&self) -> Vec<String> {
         let mut words = self.scope.names().unwrap_or_default();
         words.extend(self.functions.iter().map(|known| known.name.clone()));
-        words.extend([":drop", ":help", ":load", ":quit", ":scope"].map(str::to_owned));
+        words.extend([":cells", ":drop", ":help", ":load", ":quit", ":scope"].map(str::to_owned));
         words.sort();
         words.dedup();
         words
@@ -121,6 +132,7 @@ mod tests {
     #[test]
     fn commands_begin_with_a_colon() {
         assert_eq!(Command::of(":scope"), Some(Command::Scope));
+        assert_eq!(Command::of(":cells"), Some(Command::Cells));
         assert_eq!(Command::of(":load a b.rhai "), Some(Command::Load(Path::new("a b.rhai"))));
         assert_eq!(Command::of(":help"), Some(Command::Help));
         assert_eq!(Command::of(":quit"), Some(Command::Quit));

@@ -133,6 +133,8 @@ fn commands_of_a_prompt() {
     assert_eq!((ended.status, ended.out.as_str()), (Some(1), "1\n"));
     assert!(ended.errors.contains("/nowhere/at/all: ") && ended.errors.contains("no such command: :what"), "{}", ended.errors);
     assert!(call(&[], ":help\n").out.contains(":load FILE"));
+    let ended = call(&[], ":cells\nlet n = 7; let m = [n];\n{ let inner = 1; m.push(|| inner); }\n:cells\n");
+    assert_eq!((ended.status, ended.out.as_str(), ended.errors.as_str()), (Some(0), "#0 = 1, held by m\n", ""));
     let ended = call(&[], "{\n:drop\n2\n");
     assert_eq!((ended.status, ended.out.as_str()), (Some(0), "2\n"));
 }

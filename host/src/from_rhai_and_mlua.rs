@@ -56,7 +56,7 @@
 //! | `create_thread`, `Thread::resume` | [`start`](crate::Engine::start), [`Run::go`](crate::Run::go): the program pauses a run, a script can't |
 //! | `create_async_function`, `call_async` | missing: a task executes a run in pieces |
 //! | `set_memory_limit`, `used_memory` | [`set_max_memory`](crate::Engine::set_max_memory), [`Scope::memory`](crate::Scope::memory) |
-//! | `set_hook` by instructions, `set_interrupt` | [`on_progress`](crate::Engine::on_progress), [`interrupt`](crate::Engine::interrupt), [`set_max_time`](crate::Engine::set_max_time) |
+//! | `set_hook` by instructions, `set_interrupt` | [`on_progress`](crate::Engine::on_progress), [`interrupt`](crate::Engine::interrupt), [`set_max_time`](crate::Engine::set_max_time), [`set_deadline`](crate::Engine::set_deadline) |
 //! | `set_hook` by lines | [`on_statement`](crate::Engine::on_statement) |
 //! | `inspect_stack`, `Debug` | [`Run::calls`](crate::Run::calls), [`Run::variables`](crate::Run::variables) |
 //! | `gc_collect`, `gc_stop` | missing: unreachable cells are freed as a script runs |

@@ -2,7 +2,7 @@
 use rhai_world::{Call, Engine, EvalError, Function, Progress, Scope, Value};
 use std::sync::atomic::{AtomicU64, Ordering};
 use std::sync::{mpsc, Arc, Mutex};
-use std::time::Duration;
+use std::time::{Duration, Instant};
 
 /// A script that would never end, and catches what it can.
 const ENDLESS: &str = "let n = 0; let caught = false;\nwhile true { try { loop { n += 1; } } catch { caught = true; } }";
@@ -49,6 +49,27 @@ fn the_time_between_pieces_does_not_count() -> Result<(), EvalError> {
     assert_eq!(run.go(10)?, Progress::Paused);
     std::thread::sleep(Duration::from_millis(1_100));
     assert_eq!(run.go(100_000)?, Progress::Done(Value::Int(100)));
+    Ok(())
+}
+
+#[test]
+fn all_runs_have_to_be_done_by_a_deadline() -> Result<(), EvalError> {
+    let mut engine = Engine::new();
+    engine.set_deadline(Some(Instant::now() + Duration::from_millis(500)));
+    let mut scope = Scope::new()?;
+    let error = engine.run_with_scope(&mut scope, ENDLESS).unwrap_err();
+    assert!(matches!(error, EvalError::TooMuchTime { .. }), "{error:?}");
+    assert!(engine.eval::<i64>("1").is_err());
+    engine.set_deadline(None);
+    assert_eq!(engine.eval::<i64>("1")?, 1);
+    is_whole(&mut scope)?;
+    // (it also passes while a run is paused)
+    let deadline = Instant::now() + Duration::from_millis(20);
+    engine.set_deadline(Some(deadline));
+    let ast = engine.compile("let n = 0; loop { n += 1; if n == 100 { break n; } }")?;
+    let mut run = engine.start(&mut scope, &ast)?;
+    std::thread::sleep(deadline.saturating_duration_since(Instant::now()));
+    assert!(matches!(run.go(100_000), Err(EvalError::TooMuchTime { .. })));
     Ok(())
 }
 

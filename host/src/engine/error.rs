@@ -69,7 +69,7 @@ pub enum EvalError {
         /// The active functions, the innermost first.
         calls: Vec<CallPlace>,
     },
-    /// The run used all time of its limit.
+    /// The run used all time of its limit, or wasn't done by the deadline.
     TooMuchTime {
         /// The line where it was.
         line: u32,

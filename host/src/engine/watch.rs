@@ -64,6 +64,7 @@ type OnProgress = Box<dyn Fn(u64) -> Option<Value> + Send + Sync>;
 pub(super) struct Watch {
     operations: u64,
     time: Duration,
+    deadline: Option<Instant>,
     output: u64,
     on_progress: Option<OnProgress>,
     interrupt: Interrupt,
@@ -71,7 +72,7 @@ pub(super) struct Watch {
 
 impl Watch {
     pub(super) fn new() -> Watch {
-        Watch { operations: 0, time: Duration::ZERO, output: 0, on_progress: None, interrupt: Interrupt::new() }
+        Watch { operations: 0, time: Duration::ZERO, deadline: None, output: 0, on_progress: None, interrupt: Interrupt::new() }
     }
 
     fn has_time(&self) -> bool {
@@ -80,7 +81,8 @@ impl Watch {
 
     /// How many operations a run may execute before the next check.
     fn at_once(&self) -> u64 {
-        if self.has_time() || self.output != 0 || self.on_progress.is_some() || self.interrupt.is_held() {
+        let is_timed = self.has_time() || self.deadline.is_some();
+        if is_timed || self.output != 0 || self.on_progress.is_some() || self.interrupt.is_held() {
             WATCHED_AT_ONCE
         } else {
             AT_ONCE
@@ -93,6 +95,7 @@ impl fmt::Debug for Watch {
         f.debug_struct("Watch")
             .field("operations", &self.operations)
             .field("time", &self.time)
+            .field("deadline", &self.deadline)
             .field("output", &self.output)
             .finish_non_exhaustive()
     }
@@ -123,6 +126,26 @@ impl Engine {
     /// ```
     pub fn set_max_time(&mut self, time: Duration) -> &mut Engine {
         self.watch.time = time;
+        self
+    }
+
+    /// Sets when all runs have to be done, whenever they start; `None` is never. A run that isn't
+    /// done by then ends within 1,024 operations, with [`EvalError::TooMuchTime`]; a host function
+    /// that is being called returns first. Time between the pieces of a run counts.
+    ///
+    /// ```
+    /// use rhai_world::{Engine, EvalError};
+    /// use std::time::{Duration, Instant};
+    ///
+    /// let mut engine = Engine::new();
+    /// engine.set_deadline(Some(Instant::now() + Duration::from_millis(20)));
+    /// assert!(matches!(engine.run("loop {}"), Err(EvalError::TooMuchTime { line: 1, .. })));
+    /// assert!(matches!(engine.run("1"), Err(EvalError::TooMuchTime { .. })));
+    /// engine.set_deadline(None);
+    /// assert_eq!(engine.run("1"), Ok(()));
+    /// ```
+    pub fn set_deadline(&mut self, deadline: Option<Instant>) -> &mut Engine {
+        self.watch.deadline = deadline;
         self
     }
 
@@ -243,7 +266,8 @@ impl Used {
         if watch.operations != 0 && self.operations >= watch.operations {
             return Err(EvalError::TooManyOperations { line, column, calls: Vec::new() });
         }
-        if watch.has_time() && self.time() >= watch.time {
+        let is_late = watch.deadline.is_some_and(|deadline| Instant::now() >= deadline);
+        if is_late || watch.has_time() && self.time() >= watch.time {
             return Err(EvalError::TooMuchTime { line, column, calls: Vec::new() });
         }
         match self.asked(watch) {

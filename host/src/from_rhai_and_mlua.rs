@@ -18,7 +18,8 @@
 //! | `FnPtr::new`, its `call`, `call_within_context` | [`Scope::function`](crate::Scope::function), [`call`](crate::Function::call), [`call_within_context`](crate::Function::call_within_context) |
 //! | `NativeCallContext` | [`Call`](crate::Call), as `&mut`: its [`call`](crate::Call::call), [`call_fn`](crate::Call::call_fn), its position and operations |
 //! | `register_fn` | [`register_fn`](crate::Engine::register_fn), with up to six parameters, the first of which may be `&mut`; an error is any type that implements `Display` |
-//! | `register_type`, `register_get`, `register_set`, `register_indexer_get` | missing: values are those of [`Value`](crate::Value) |
+//! | `register_type`, `Dynamic::from` of a type of the program | [`Objects`](crate::Objects): scripts hold them by number; functions take an [`Object`](crate::Object) |
+//! | `register_get`, `register_set`, `register_indexer_get` | missing: register functions, called as methods |
 //! | `register_iterator`, `register_custom_operator`, `register_custom_syntax` | missing: the proved language is fixed |
 //! | `on_print`, `on_debug` | [`on_print`](crate::Engine::on_print) gets both, a line at a time |
 //! | `on_progress` | [`on_progress`](crate::Engine::on_progress), at least every 1,024 operations; its error is [`Terminated`](crate::EvalError::Terminated) |
@@ -52,7 +53,8 @@
 //! | `globals().set`, `.get` | [`Scope::push`](crate::Scope::push) or [`set`](crate::Scope::set), [`Scope::get`](crate::Scope::get) |
 //! | `create_function`, `Function` | [`register_fn`](crate::Engine::register_fn), [`Function`](crate::Function), which its scope keeps |
 //! | `create_table`, `create_string` | [`Map`](crate::Map), [`Array`](crate::Array) and `String` are Rust values |
-//! | `create_userdata`, `register_userdata_type` | missing: values are those of [`Value`](crate::Value); a number may stand for what the program keeps |
+//! | `create_userdata`, `AnyUserData` | [`Objects::add`](crate::Objects::add), [`Object`](crate::Object): the program says how long they live, [`retain_in`](crate::Objects::retain_in) frees what a scope doesn't hold |
+//! | `register_userdata_type`, `UserData::add_methods` | registered functions with an [`Object`](crate::Object) as the first parameter |
 //! | `create_thread`, `Thread::resume` | [`start`](crate::Engine::start), [`Run::go`](crate::Run::go): the program pauses a run, a script can't |
 //! | `create_async_function`, `call_async` | missing: a task executes a run in pieces |
 //! | `set_memory_limit`, `used_memory` | [`set_max_memory`](crate::Engine::set_max_memory), [`Scope::memory`](crate::Scope::memory) |

@@ -61,7 +61,8 @@
 //! # Ok::<(), EvalError>(())
 //! ```
 //!
-//! [`Scope::save`] makes plain data of a scope, for a file or another thread.
+//! [`Scope::save`] makes plain data of a scope, for a file or another thread. With [`Objects`] scripts
+//! hold values of the program's own types.
 //!
 //! An error has a name, a position and the active functions, for the program and for the author of the
 //! script:
@@ -180,8 +181,8 @@ mod world;
 pub use answer::{Answer, ArithmeticFault, Refusal, SizeKind};
 pub use commands::Command;
 pub use engine::{
-    Answers, Arguments, Ast, Call, CallPlace, Engine, EvalError, Found, Function, HostFn, Interrupt, Parameter, Progress, Run,
-    Saved, Scope, Variables, Wanted,
+    Answers, Arguments, Ast, Call, CallPlace, Engine, EvalError, Found, Function, HostFn, Interrupt, Object, Objects, Parameter,
+    Progress, Run, Saved, Scope, Variables, Wanted,
 };
 pub use error::Error;
 pub use journal::Journal;

@@ -286,7 +286,7 @@ impl Engine {
         name: &str,
         arguments: impl Arguments,
     ) -> Result<T, EvalError> {
-        Run::begin_call(self, scope, ast, name, arguments.into_values()?)?.finish()
+        Run::begin_call(self, scope, ast, name.into(), arguments.into_values()?)?.finish()
     }
 
     /// Starts a run of a compiled script over the variables of a scope, for execution in pieces:
@@ -320,7 +320,7 @@ impl Engine {
         name: &str,
         arguments: impl Arguments,
     ) -> Result<Run<'a>, EvalError> {
-        Run::begin_call(self, scope, ast, name, arguments.into_values()?)
+        Run::begin_call(self, scope, ast, name.to_owned().into(), arguments.into_values()?)
     }
 }
 

@@ -151,6 +151,9 @@ impl Call<'_> {
     pub(super) fn see(&mut self, went: Went) -> Result<Stop, EvalError> {
         let Went { printed, operations, line, column, stop } = went;
         (self.used.operations, self.used.line, self.used.column) = (operations, line, column);
+        if printed.is_empty() {
+            return Ok(stop);
+        }
         for text in printed.split_inclusive('\n') {
             self.used.print(&self.engine.watch, text)?;
             let printed = self.engine.print(text.strip_suffix('\n').unwrap_or(text));

@@ -6,6 +6,7 @@ use super::watch::Used;
 use super::{Ast, Call, CallPlace, Engine, EvalError, Function, Scope, Wanted};
 use crate::memory::Memory;
 use crate::value::Value;
+use std::borrow::Cow;
 use std::fmt;
 use std::mem::replace;
 
@@ -60,7 +61,7 @@ pub struct Run<'a> {
     engine: &'a Engine,
     scope: &'a mut Scope,
     /// The function to call after the statements outside functions.
-    function: Option<(String, Vec<Value>)>,
+    function: Option<(Cow<'a, str>, Vec<Value>)>,
     /// How many variables are left at the end, if not all.
     stay: Option<usize>,
     stands: bool,
@@ -98,12 +99,12 @@ impl<'a> Run<'a> {
         engine: &'a Engine,
         scope: &'a mut Scope,
         ast: &Ast,
-        name: &str,
+        name: Cow<'a, str>,
         arguments: Vec<Value>,
     ) -> Result<Run<'a>, EvalError> {
         let before = scope.len();
         let mut run = Run::begin(engine, scope, ast)?;
-        run.function = Some((name.to_owned(), arguments));
+        run.function = Some((name, arguments));
         run.stay = Some(before);
         Ok(run)
     }

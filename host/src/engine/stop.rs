@@ -46,6 +46,7 @@ pub(super) enum Scalar {
 
 impl Scalar {
     /// Returns the value that the library reports in these numbers, if it reports one.
+    #[inline]
     fn reported(kind: u32, number: i64) -> Option<Value> {
         match kind {
             0 => Some(Value::Unit),
@@ -55,6 +56,7 @@ impl Scalar {
         }
     }
 
+    #[inline]
     fn of(value: &Value) -> Option<Scalar> {
         match value {
             Value::Unit => Some(Scalar::Unit),
@@ -89,6 +91,7 @@ impl Scalar {
     }
 
     /// Returns the numbers in which the library takes the value.
+    #[inline]
     fn numbers(self) -> (u32, i64) {
         match self {
             Scalar::Unit => (0, 0),
@@ -101,6 +104,7 @@ impl Scalar {
 /// How a run of the scope continues.
 impl Scope {
     /// Continues the run for at most this many operations, with the result that waits for it.
+    #[inline]
     pub(super) fn go(&mut self, operations: u64) -> Result<Went, EvalError> {
         let handle = &self.world.handle;
         done(match self.waiting.take().map(Scalar::numbers) {
@@ -118,6 +122,7 @@ impl Scope {
         }
     }
 
+    #[inline]
     fn went(&self) -> Result<Went, EvalError> {
         let (printed, message) = self.texts(&self.stop)?;
         let ScriptStop { kind, function, line, column, operations, .. } = self.stop;
@@ -160,6 +165,7 @@ impl Scope {
     }
 
     /// Returns an argument of the registered function being called.
+    #[inline]
     pub(super) fn argument(&self, number: usize) -> Result<Value, EvalError> {
         if let Some(value) = self.reported_argument(number) {
             return Ok(value);
@@ -169,6 +175,7 @@ impl Scope {
         self.value_told(status, &told)
     }
 
+    #[inline]
     fn reported_argument(&self, number: usize) -> Option<Value> {
         let ScriptStop { kind: 2, value_kind, value, second_kind, second, third_kind, third, .. } = self.stop else {
             return None;
@@ -179,6 +186,7 @@ impl Scope {
 
     /// Passes a value to the script that called a registered function, at the latest when it
     /// continues.
+    #[inline]
     pub(super) fn answer(&mut self, value: &Value) -> Result<(), EvalError> {
         self.waiting = Scalar::of(value);
         match self.waiting {

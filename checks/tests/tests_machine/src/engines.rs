@@ -52,7 +52,9 @@ fn an_engine_is_used(alloc: Global) -> Option<bool> {
         .ok()?;
     let begun = engine.begin(&LIMITS, true).ok()?;
     let first = driven(&mut engine)?;
-    let called = engine.call("twice", &[Dynamic::from_int(4)]).ok()?;
+    let mut arguments = Vec::new(alloc);
+    arguments.push(Dynamic::from_int(4)).ok()?;
+    let called = engine.call("twice", arguments).ok()?;
     let second = driven(&mut engine)?;
     engine.end();
     let left = engine.scope().get(0)?.as_int(engine.store()).ok()?;

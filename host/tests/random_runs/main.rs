@@ -34,10 +34,13 @@ fn shown<T>(seed: u64, work: impl FnOnce(&Trial, &mut Random) -> T) -> T {
     })
 }
 
+/// The seeds of trials that failed once: of a function that fails where a run in pieces owes operations.
+const FAILED: [u64; 2] = [20_004_805, 10_117_188];
+
 #[test]
 fn the_same_script_does_the_same() {
     let mut ends = BTreeMap::new();
-    for seed in seeds(1) {
+    for seed in FAILED.into_iter().chain(seeds(1)) {
         let outcome = shown(seed, Trial::run);
         let end = name_of(&outcome.end);
         assert!(end != "Failed Unexpected" && end != "Failed Syntax", "seed {seed}: {outcome:?}");

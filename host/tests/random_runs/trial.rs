@@ -331,8 +331,9 @@ fn ended(run: &mut Run<'_>, error: EvalError) -> End {
 fn look(run: &Run<'_>) {
     let calls = run.calls();
     if run.operations() > 0 {
+        // (at the limit on memory there may be no room for a name, and the list ends)
         let outermost = calls.last().map(|call| call.function.as_str());
-        assert!(outermost.is_some_and(|name| name.is_empty() || NAMED.iter().any(|(it, _)| *it == name)), "{calls:?}");
+        assert!(outermost.is_none_or(|name| name.is_empty() || NAMED.iter().any(|(it, _)| *it == name)), "{calls:?}");
     }
     for call in 0..=calls.len() {
         if let Ok(variables) = run.variables(call) {
@@ -344,7 +345,9 @@ fn look(run: &Run<'_>) {
 
 /// Returns the variables of the statements outside functions, from the newest to the oldest; `None` if they can't be taken out.
 fn outermost(run: &Run<'_>) -> Option<Vec<(String, Value)>> {
-    run.variables(run.calls().len().checked_sub(1)?).ok()
+    let calls = run.calls();
+    let last = calls.last().filter(|call| call.function.is_empty());
+    last.and_then(|_| run.variables(calls.len() - 1).ok())
 }
 
 /// Checks that a scope has the variables that were seen in its run, except those of blocks. One that was `this` of a method has its value back.

@@ -60,6 +60,7 @@ CALLS = [
         "x += 1", "x * 3 / 2 % 7", "x << 2 >> 1", "x ** 2", "x.abs()", "x.min(3)", "x.max(3)", "x == 5", "x < 5", "-x", "!true", "x[3]", "x[1..3]",
         "let f = |y| y + x; f.call(1)", "type_of(x)", "is_shared(x)", "Fn(\"abs\")", "Fn(\"abs\").call(x)", "Fn(\"abs\").name", "blob(x, 1)", "x.sign()", "x.is_odd", "x.is_even()", "x.is_zero()",
         "x.to_hex()", "x.to_octal()", "x.to_binary()", "x.get_bit(3)", "x.get_bits(1..4)", "x.get_bits(1, 3)", "x.bits", "x.set_bit(1, true)",
-        "x.set_bits(1..4, 3)", "x.set_bits(1, 3, 3)", "range(1, x)", "(1..x).start", "(1..x).contains(3)", "(1..x).is_empty()",
+        "x.set_bits(1..4, 3)", "x.set_bits(1, 3, 3)", "range(1, x)",
+        "for i in range(1, 99, x) {}", "for i in range(1..99, x) {}", "(1..x).start", "(1..x).contains(3)", "(1..x).is_empty()",
         "'a'.to_upper()", "'a'.to_int()", "let c = 'a'; c.make_upper()", "1..x", "`${x}`", "x ?? 1", "switch x { 5 => 1 }")),
 ]

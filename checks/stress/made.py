@@ -2,12 +2,13 @@
 
 NAMES = ["a", "b", "c", "d", "e"]
 KEYS = ["x", "y", "z"]
-TEXTS = ['"s"', '"tu"', '""', '"vwx"']
+TEXTS = ['"s"', '"tu"', '""', '"vwx"', '#"r\\"#', '"l\\\n m"']
 BINARY = ["+", "-", "*", "/", "%", "==", "!=", "<", "<=", ">", ">=", "&", "|", "^", "..", "..=", "<<", ">>", "**", "??", "in", "!in"]
 ASSIGNING = ["=", "=", "=", "+=", "+=", "-=", "*=", "/=", "%=", "|=", "**="]
-ASKS = ["len()", "type_of()", "is_empty()", "to_string()", "abs()", "keys()", "values()", "is_shared()", "contains(1)", "index_of(2)", "get(0)", "chars()", "bytes()", "bytes", "is_odd", "to_hex()", "to_binary()", "split()", "split(1)", "split_rev(\"s\")", "to_chars()", "to_json()", "start", "end()", "is_exclusive", "bits(0..4)", "get_bits(1, 3)", "get_bit(2)", "sub_string(1..2)", "index_of('s')", "sign()", "blob(3)", "parse_int()", "to_blob()", "as_string()", "parse_le_int(0, 2)", "name", "extract(0..=1)"]
-CHANGES = ["push({})", "pop()", "shift()", "reverse()", "insert(0, {})", "clear()", "truncate(2)", "set(0, {})", "remove(0)", "append([{}])", "pad(3, {})", "make_upper()", "trim()", "sort()", "dedup()", "splice(0, 1, [{}])", "crop(0..2)", "drain(0..1)", "retain(0..2)", "make_lower()", "replace('s', \"z\")", "remove('s')", "set_bit(1, true)", "set_bits(0..2, {})", "write_be(0, 2, {})", "write_utf8(0, 3, \"xyz\")", "mixin(#{{ x: {} }})", "fill_with(#{{ z: {} }})", "zip([{}], |p, q| p)"]
+ASKS = ["len()", "type_of()", "is_empty()", "to_string()", "abs()", "keys()", "values()", "is_shared()", "contains(1)", "index_of(2)", "get(0)", "chars()", "bytes()", "bytes", "is_odd", "to_hex()", "to_binary()", "split()", "split(1)", "split_rev(\"s\")", "to_chars()", "to_json()", "start", "end()", "is_exclusive", "bits(0..4)", "get_bits(1, 3)", "get_bit(2)", "get_bits(1..3)", "to_octal()", "to_int()", "to_upper()", "len", "is_inclusive()", "parse_be_int(0..2)", "starts_with(\"s\")", "sub_string(1..2)", "index_of('s')", "sign()", "blob(3)", "parse_int()", "to_blob()", "as_string()", "parse_le_int(0, 2)", "name", "extract(0..=1)"]
+CHANGES = ["push({})", "pop()", "shift()", "reverse()", "insert(0, {})", "clear()", "truncate(2)", "set(0, {})", "remove(0)", "append([{}])", "pad(3, {})", "make_upper()", "trim()", "sort()", "dedup()", "splice(0, 1, [{}])", "crop(0..2)", "drain(0..1)", "retain(0..2)", "make_lower()", "replace('s', \"z\")", "remove('s')", "set_bit(1, true)", "set_bits(0..2, {})", "write_be(0, 2, {})", "write_le(0..2, {})", "write_ascii(0..2, \"xy\")", "write_utf8(0, 3, \"xyz\")", "mixin(#{{ x: {} }})", "fill_with(#{{ z: {} }})", "zip([{}], |p, q| p)"]
 EACH = ["map", "filter", "all", "some", "find", "find_map", "index_of", "for_each", "drain", "retain", "dedup", "reduce_rev"]
+NAMED_CALLBACK = '"f0"'
 THIS = ["this", "this.x", "this += 1", "this.push(1)", "this[0]", "this.f0()", "print(this)", "this.x = [this]", "this = 3"]
 
 
@@ -32,7 +33,7 @@ class Maker:
     def leaf(self):
         kind = self.chance.random()
         if kind < 0.4:
-            return str(self.pick([0, 1, 2, 3, 7, -1, 100, 2**40, 2**63 - 1]))
+            return str(self.pick([0, 1, 2, 3, 7, -1, 100, 2**40, 2**63 - 1, "0o17"]))
         if kind < 0.75:
             return self.name()
         if kind < 0.85:
@@ -75,7 +76,7 @@ class Maker:
             return f"reduce({self.closure(depth)}{self.pick(['', ', 0'])})"
         if kind < 0.94:
             return f"sort({self.pick(['|p, q| p - q', '|p, q| q - p', self.closure(depth)])})"
-        return f"{self.pick(EACH)}({self.pick(['|p| p == 1', self.closure(depth)])})"
+        return f"{self.pick(EACH)}({self.pick(['|p| p == 1', self.closure(depth), self.closure(depth), NAMED_CALLBACK])})"
 
     def step(self, depth):
         call, index = (lambda: f".{self.method(depth)}"), (lambda: f"[{self.value(1)}]")
@@ -90,7 +91,7 @@ class Maker:
         if self.functions and self.chance.random() < 0.6:
             name, count = self.pick(self.functions)
             return f"{name}({', '.join(self.value(depth - 1) for _ in range(count))})"
-        name = self.pick(["print", "debug", "type_of", "is_shared", "len", "push", "abs", "sort", "map", "pop", "missing", "curry", "to_string", "range", "is_def_var", "is_def_fn", "Fn"])
+        name = self.pick(["print", "debug", "type_of", "is_shared", "len", "push", "abs", "sort", "map", "pop", "missing", "curry", "call", "to_string", "range", "is_def_var", "is_def_fn", "Fn"])
         count = {"push": 2, "sort": self.pick([1, 2]), "map": 2, "curry": 2, "range": 2, "is_def_fn": 2}.get(name, 1)
         arguments = [self.value(depth - 1) if self.chance.random() < 0.5 else self.name() for _ in range(count)]
         if name in ("map", "sort") and count == 2:
@@ -152,7 +153,7 @@ class Maker:
         self.declared.append([])
         kind = self.pick(["for", "for", "for", "while", "do", "loop"])
         if kind == "for":
-            source = self.pick(["0..3", "1..=3", "[1, 2, 3]", '"abc"', self.place(), self.value(1)])
+            source = self.pick(["0..3", "1..=3", "[1, 2, 3]", '"abc"', self.place(), self.value(1), self.stepped()])
             pair = self.chance.random() < 0.25
             item = self.pick(NAMES)
             index = self.pick([it for it in NAMES if it != item])
@@ -170,6 +171,10 @@ class Maker:
         self.declared.pop()
         self.loops -= 1
         return made
+
+    def stepped(self):
+        step = self.pick(["2", "-1", "3", "0", "2 ** 62", self.value(1)])
+        return f"range({self.pick(['0, 5', '5, 0', '0..7', f'{self.value(1)}, {self.value(1)}', self.value(1)])}{self.pick(['', f', {step}', f', {step}', f', {step}'])})"
 
     def attempt(self, depth):
         body = self.block(depth)
@@ -202,7 +207,7 @@ class Maker:
         if kind < 0.93 and self.loops:
             return self.pick(["break;", "continue;", f"break {self.value(1)};"])
         if kind < 0.95:
-            return self.pick([f"throw {self.value(1)};", "return;", f"return {self.value(1)};"])
+            return self.pick([f"throw {self.value(1)};", "return;", f"return {self.value(1)};"] * 3 + [f"exit({self.pick(['', self.value(1)])});"])
         return f"{self.value(depth)};"
 
     def statements(self, depth, count):

@@ -372,6 +372,10 @@ uint32_t rhai_host_script_begin(
 /* Sets whether the run stops before each statement. */
 uint32_t rhai_host_script_stop_at_statements(RhaiHostHandle *handle, bool stops);
 
+/* Sets whether this run and later ones note which printed lines are those of `debug`, for
+ * `rhai_host_script_debugs`. */
+uint32_t rhai_host_script_note_debugs(RhaiHostHandle *handle, bool notes);
+
 /* Continues the run for at most this many operations. */
 uint32_t rhai_host_script_go(RhaiHostHandle *handle, uint64_t operations, RhaiHostScriptStop *stop);
 
@@ -383,6 +387,24 @@ uint32_t rhai_host_script_call(
     size_t name_len,
     const uint8_t *arguments,
     size_t arguments_len);
+
+/* Starts a run as `rhai_host_script_begin` does, of a script that has no statements outside functions, calls one
+ * of its functions as `rhai_host_script_call` does, and continues for at most this many operations. A run that
+ * is done has ended, if the stop reports its value. NO_COMMAND means that there is no run: the script has such
+ * statements, or no such function, or no operation is left for the function, or it is not a script for these
+ * variables. */
+uint32_t rhai_host_script_call_at_once(
+    RhaiHostHandle *handle,
+    size_t text,
+    size_t items,
+    size_t entries,
+    size_t calls,
+    const uint8_t *name,
+    size_t name_len,
+    const uint8_t *arguments,
+    size_t arguments_len,
+    uint64_t operations,
+    RhaiHostScriptStop *stop);
 
 /* Ends the run, wherever it is: its variables can be read and written then. */
 uint32_t rhai_host_script_end(RhaiHostHandle *handle);
@@ -412,9 +434,9 @@ uint32_t rhai_host_function_answer(RhaiHostHandle *handle, size_t number);
 uint32_t rhai_host_script_change(RhaiHostHandle *handle, const uint8_t *value, size_t value_len);
 
 /* Starts a call of a kept function with these arguments: the hash bytes of an array of them. While a host
- * function is being called, the run continues to a stop of kind 7 or 8, after which that call is open as before.
- * Otherwise the script's body has to be done, and no call may be open. NO_COMMAND means that neither is the
- * case, or that no such function takes this many arguments. */
+ * function is being called, the run continues to a stop of kind 7 or 8, after which that call is open as before,
+ * or of kind 0, by `exit`, after which it is not. Otherwise the script's body has to be done, and no call may be
+ * open. NO_COMMAND means that neither is the case, or that no such function takes this many arguments. */
 uint32_t rhai_host_function_call(
     RhaiHostHandle *handle,
     size_t number,
@@ -753,8 +775,9 @@ uint32_t rhai_host_run_script(
  * the variables alone. `Engine::snapshot` describes the bytes. */
 uint32_t rhai_host_script_snapshot(RhaiHostHandle *handle, RhaiHostTold *told);
 
-/* Returns a snapshot of the world: the byte 2; the entries, the newest first, each behind the byte 1, and 0
- * after the last one; the values of the hand in the same way; and what each cell holds. */
+/* Returns a snapshot of the world: the byte 2; the byte 1 for each open mark, the oldest first, and 0 after the
+ * last one; the entries, the newest first, each behind the byte 1, and 0 after the last one; the values of the
+ * hand in the same way; and what each cell holds. The first cells are those of the marks. */
 uint32_t rhai_host_snapshot(RhaiHostHandle *handle, RhaiHostTold *told);
 
 /* Returns the name of an active function, and reports where it is: number 0 runs, or failed, and each is called
@@ -766,6 +789,11 @@ uint32_t rhai_host_script_function(
     size_t *line,
     size_t *column,
     RhaiHostTold *told);
+
+/* Returns which lines `debug` printed of those that the last stop reported, for each four numbers of eight
+ * bytes: how many printed bytes are before it, how many it has with its line feed, and the line and column of
+ * the call. Each is returned once. There are none before `rhai_host_script_note_debugs`. */
+uint32_t rhai_host_script_debugs(RhaiHostHandle *handle, RhaiHostTold *told);
 
 /* Returns the name of the newest visible variable of an active function before the one of this number, and
  * reports its own number: starting from the largest number, each leads to the next. NO_COMMAND means that there
@@ -872,9 +900,9 @@ uint32_t rhai_host_variable_name(RhaiHostHandle *handle, size_t number, RhaiHost
 uint32_t rhai_host_variable_value(RhaiHostHandle *handle, size_t number, RhaiHostTold *told);
 
 /* Does nothing: its name is a sum of all that is exported, so that a host of other declarations doesn't link. */
-void rhai_host_stamp_4e4dc850c2f8c7ba(void);
+void rhai_host_stamp_ba0687403f83718c(void);
 
-#define RHAI_HOST_STAMP rhai_host_stamp_4e4dc850c2f8c7ba
+#define RHAI_HOST_STAMP rhai_host_stamp_ba0687403f83718c
 
 #undef RHAI_HOST_ASSERT
 #undef RHAI_HOST_ALIGN

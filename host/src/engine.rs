@@ -41,6 +41,9 @@ const CALLS: usize = 500;
 /// The callback for each line that a script prints.
 type Print = Box<dyn Fn(&str) + Send + Sync>;
 
+/// Gets what scripts print by `debug`: the text, and the line and the column of the call.
+type Debug = Box<dyn Fn(&str, u32, u32) + Send + Sync>;
+
 /// The callback before each statement, with its line and column.
 type AtStatement = Box<dyn Fn(u32, u32) + Send + Sync>;
 
@@ -84,6 +87,7 @@ pub struct Engine {
     watch: Watch,
     calls: usize,
     print: Option<Print>,
+    debug: Option<Debug>,
     at_statement: Option<AtStatement>,
 }
 
@@ -99,6 +103,7 @@ impl Engine {
             watch: Watch::new(),
             calls: CALLS,
             print: None,
+            debug: None,
             at_statement: None,
         }
     }
@@ -166,6 +171,29 @@ impl Engine {
     /// ```
     pub fn on_print(&mut self, print: impl Fn(&str) + Send + Sync + 'static) -> &mut Engine {
         self.print = Some(Box::new(print));
+        self
+    }
+
+    /// Sets the callback for what scripts print by `debug`, with the line and the column of the
+    /// call. Without one it goes where the other lines go.
+    ///
+    /// ```
+    /// use rhai_world::{Engine, EvalError};
+    /// use std::sync::{Arc, Mutex};
+    ///
+    /// let lines = Arc::new(Mutex::new(Vec::new()));
+    /// let kept = Arc::clone(&lines);
+    /// let mut engine = Engine::new();
+    /// engine.on_print(|_| {});
+    /// engine.on_debug(move |text, line, column| {
+    ///     kept.lock().expect("no panic").push(format!("{line}:{column} {text}"));
+    /// });
+    /// engine.run("print(1);\ndebug(\"two\");")?;
+    /// assert_eq!(*lines.lock().expect("no panic"), ["2:1 \"two\""]);
+    /// # Ok::<(), EvalError>(())
+    /// ```
+    pub fn on_debug(&mut self, debug: impl Fn(&str, u32, u32) + Send + Sync + 'static) -> &mut Engine {
+        self.debug = Some(Box::new(debug));
         self
     }
 
@@ -286,7 +314,7 @@ impl Engine {
         name: &str,
         arguments: impl Arguments,
     ) -> Result<T, EvalError> {
-        Run::begin_call(self, scope, ast, name.into(), arguments.into_values()?)?.finish()
+        Run::call_whole(self, scope, ast, name, arguments.into_values()?)
     }
 
     /// Starts a run of a compiled script over the variables of a scope, for execution in pieces:
@@ -347,6 +375,17 @@ impl Engine {
             None => writeln!(std::io::stdout().lock(), "{line}")?,
         }
         Ok(())
+    }
+
+    /// Passes a line of `debug` on.
+    fn debug(&self, text: &str, line: u32, column: u32) {
+        if let Some(debug) = &self.debug {
+            debug(text, line, column);
+        }
+    }
+
+    pub(crate) fn takes_debugs(&self) -> bool {
+        self.debug.is_some()
     }
 
     pub(crate) fn names(&self) -> &str {

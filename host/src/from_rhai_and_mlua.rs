@@ -21,7 +21,7 @@
 //! | `register_type`, `Dynamic::from` of a type of the program | [`Objects`](crate::Objects): scripts hold them by number; functions take an [`Object`](crate::Object) |
 //! | `register_get`, `register_set`, `register_indexer_get` | missing: register functions, called as methods |
 //! | `register_iterator`, `register_custom_operator`, `register_custom_syntax` | missing: the proved language is fixed |
-//! | `on_print`, `on_debug` | [`on_print`](crate::Engine::on_print) gets both, a line at a time |
+//! | `on_print`, `on_debug` | [`on_print`](crate::Engine::on_print), a line at a time; [`on_debug`](crate::Engine::on_debug), with the line and the column |
 //! | `on_progress` | [`on_progress`](crate::Engine::on_progress), at least every 1,024 operations; its error is [`Terminated`](crate::EvalError::Terminated) |
 //! | `on_var`, `on_def_var`, `on_parse_token` | missing: names are resolved when a script is compiled |
 //! | `register_debugger`, its `call_stack` | [`on_statement`](crate::Engine::on_statement), [`Run::stop_at_statements`](crate::Run::stop_at_statements), [`Run::calls`](crate::Run::calls), [`Run::variables`](crate::Run::variables) |

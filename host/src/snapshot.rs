@@ -14,7 +14,7 @@ use std::slice;
 
 /// The values of a run, a scope or a world, with everything that they share: each shared cell is in
 /// it once, and its holders have its number. Cells are numbered from 0 in the order in which they
-/// are first reached.
+/// are first reached, those with an open mark before the others.
 ///
 /// It is plain data: later changes don't show in it, and it may go to another thread. Equal scopes
 /// have equal snapshots. Reading, comparing and dropping it takes a bounded part of the stack,
@@ -47,6 +47,8 @@ pub struct Snapshot {
     variables: Vec<Variable>,
     /// Where the values of the hand begin; `None` unless it is one of a world.
     hand: Option<Vec<usize>>,
+    /// How many open marks a world has: the first cells are theirs.
+    marks: usize,
     /// Where the contents of the cells begin.
     cells: Vec<usize>,
 }
@@ -87,6 +89,26 @@ impl Snapshot {
     /// Iterates over the values of the hand of a world.
     pub fn hand(&self) -> impl ExactSizeIterator<Item = Seen<'_>> + DoubleEndedIterator {
         self.hand.as_deref().unwrap_or_default().iter().map(|at| self.seen(*at))
+    }
+
+    /// Returns the number of open marks of a world. The cell of each mark has the mark's number.
+    ///
+    /// ```
+    /// use rhai_world::{Error, Limits, Shape, World};
+    ///
+    /// let mut world = World::new(Limits::default())?;
+    /// for line in ["int 7", "share 0", "copy 0", "mark 0"] {
+    ///     world.line(line)?;
+    /// }
+    /// let snapshot = world.snapshot()?;
+    /// assert_eq!(snapshot.marks(), 1);
+    /// let shapes: Vec<Shape> = snapshot.hand().map(|value| value.shape()).collect();
+    /// assert_eq!(shapes, [Shape::Cell(0), Shape::Cell(0)]);
+    /// assert_eq!(snapshot.cell(0).map(|value| value.shape()), Some(Shape::Int(7)));
+    /// # Ok::<(), Error>(())
+    /// ```
+    pub fn marks(&self) -> usize {
+        self.marks
     }
 
     /// Returns the content of the cell with this number.

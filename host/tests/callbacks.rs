@@ -74,6 +74,22 @@ fn what_goes_wrong_within_is_thrown_where_the_program_is_called() -> Result<(), 
 }
 
 #[test]
+fn a_script_exits_within() -> Result<(), EvalError> {
+    let mut engine = engine();
+    engine.register_fn("or", |call: &mut Call, f: Function, other: i64| call.call::<i64>(&f, ()).unwrap_or(other));
+    assert_eq!(engine.eval::<i64>("let n = 1; each([1, 2, 3], |x| { n += x; if x == 2 { exit(n); } }); 0")?, 4);
+    assert_eq!(engine.eval::<i64>("try { or(|| exit(5), 7) } catch { 8 }")?, 5);
+    assert_eq!(engine.eval::<i64>("1 + apply(|x| 1 + apply(|y| exit(y * 2), x), 3)")?, 6);
+    engine.run("or(|| exit(), 7); 1 / 0")?;
+    let mut scope = Scope::of([("kept", 7)])?;
+    let text = "fn stop(n) { or(|| exit(n), 0) } let new = 1; kept += 1; stop(kept); let missing = 2;";
+    assert_eq!(engine.eval_with_scope::<i64>(&mut scope, text)?, 8);
+    assert_eq!((scope.get::<i64>("kept"), scope.get::<i64>("new"), scope.len()), (Some(8), Some(1), 2));
+    assert_eq!(engine.eval_with_scope::<i64>(&mut scope, "kept + 1")?, 9);
+    Ok(())
+}
+
+#[test]
 fn limits_hold_within() -> Result<(), EvalError> {
     let mut engine = engine();
     engine.register_fn("swallow", |call: &mut Call, f: Function| call.call::<Value>(&f, ()).is_ok());

@@ -1,7 +1,7 @@
 //! Runs in pieces.
 mod common;
 
-use rhai_world::{Array, Engine, EvalError, Progress, Saved, Scope, Value};
+use rhai_world::{Array, Engine, EvalError, Progress, Run, Saved, Scope, Value};
 use std::panic::{catch_unwind, AssertUnwindSafe};
 use std::sync::{Arc, Mutex};
 
@@ -176,6 +176,32 @@ fn what_is_printed_before_an_error_is_handed_on() {
 }
 
 #[test]
+fn lines_of_debug_are_told_apart_and_in_order() -> Result<(), EvalError> {
+    let text = "fn f(x) {\n    debug(x);\n    x + 1\n}\nprint(\"a\\nb\");\ndebug(\"c\\nd\");\nprint(f('e'.to_int() - 100));\ndebug([(), 'x']);";
+    let expected = ["a", "b", "debug 6 \"c\\nd\"", "debug 2 1", "2", "debug 8 [(), 'x']"];
+    let mut engine = Engine::new();
+    let lines = lines_of(&mut engine);
+    let kept = Arc::clone(&lines);
+    engine.on_debug(move |text, line, _| kept.lock().expect("no panic").push(format!("debug {line} {text}")));
+    let mut scope = Scope::new()?;
+    engine.run_with_scope(&mut scope, text)?;
+    assert_eq!(*lines.lock().expect("no panic"), expected);
+
+    // (the same an operation at a time; another engine over the scope gets all lines as before)
+    lines.lock().expect("no panic").clear();
+    let ast = engine.compile(text)?;
+    let mut run = engine.start(&mut scope, &ast)?;
+    while run.go(1)? == Progress::Paused {}
+    drop(run);
+    assert_eq!(*lines.lock().expect("no panic"), expected);
+    let mut plain = Engine::new();
+    let lines = lines_of(&mut plain);
+    plain.run_with_scope(&mut scope, "debug(\"c\"); print(1);")?;
+    assert_eq!(*lines.lock().expect("no panic"), ["\"c\"", "1"]);
+    Ok(())
+}
+
+#[test]
 fn a_panic_of_what_is_called_leaves_the_variables() -> Result<(), EvalError> {
     let mut engine = Engine::new();
     engine.on_print(|line| assert_ne!(line, "2"));
@@ -282,5 +308,96 @@ fn many_shared_places_and_deep_values_are_saved() -> Result<(), EvalError> {
     let again = saved.restore()?;
     assert_eq!(again.save()?, saved);
     assert_eq!(again.value("deep")?, scope.value("deep")?);
+    Ok(())
+}
+
+/// Scripts whose functions are called, each with an argument for `f`.
+const CALLED: [(&str, i64); 8] = [
+    ("fn f(x) { x * 2 }", 21),
+    ("fn f(x) { let s = 0; for i in 0..x { s += i; } print(s); s }", 1_000),
+    ("fn f(x) { if x == 0 { 0 } else { 1 + f(x - 1) } }", 50),
+    ("fn f(x) { ask(x) + ask(x + 1) }", 3),
+    ("fn f(x) { print(\"before\"); throw \"no \" + x; }", 4),
+    ("fn f(x) { let a = []; while a.len() < x { a.push(\"text\"); } a.len() }", 40),
+    ("let base = 7; fn f(x) { x + 1 }", 5),
+    ("fn g(x) { x }", 6),
+];
+
+fn a_printing_engine(printed: &Arc<Mutex<String>>) -> Engine {
+    let mut engine = Engine::new();
+    let kept = Arc::clone(printed);
+    engine.on_print(move |line| kept.lock().unwrap().push_str(line)).register_fn("ask", |n: i64| n * 10);
+    engine
+}
+
+/// How a call ended: its value or error, what it printed, and the variables afterwards.
+type End = (Result<Value, EvalError>, String, Vec<String>);
+
+/// Calls `f`, at once or in pieces, with at most this many operations.
+fn called(text: &str, argument: i64, operations: u64, is_at_once: bool) -> Result<End, EvalError> {
+    let printed = Arc::default();
+    let mut engine = a_printing_engine(&printed);
+    engine.set_max_operations(operations);
+    let ast = engine.compile(text)?;
+    let mut scope = Scope::of([("before", 1)])?;
+    let value = if is_at_once {
+        engine.call_fn(&mut scope, &ast, "f", (argument,))
+    } else {
+        in_pieces(engine.start_fn(&mut scope, &ast, "f", (argument,))?)
+    };
+    let printed = printed.lock().unwrap().clone();
+    Ok((value, printed, scope.names()?))
+}
+
+fn in_pieces(mut run: Run<'_>) -> Result<Value, EvalError> {
+    loop {
+        if let Progress::Done(value) = run.go(3)? {
+            return Ok(value);
+        }
+    }
+}
+
+#[test]
+fn a_function_called_at_once_ends_as_one_in_pieces() -> Result<(), EvalError> {
+    let (mut values, mut errors) = (0, 0);
+    for (text, argument) in CALLED {
+        for operations in (1..60).chain([300, 2_000, 0]) {
+            let ends = [true, false].map(|is_at_once| called(text, argument, operations, is_at_once));
+            assert_eq!(ends[0], ends[1], "{text} with {operations} operations");
+            match &ends[0] {
+                Ok((Ok(_), _, names)) => {
+                    assert_eq!(names, &["before"]);
+                    values += 1;
+                }
+                Ok((Err(_), _, _)) => errors += 1,
+                Err(error) => panic!("{error}"),
+            }
+        }
+    }
+    // (the last script has no such function, the one before it fails as soon as it is called)
+    assert!(values > 100 && errors > 100, "{values} and {errors}");
+    Ok(())
+}
+
+#[test]
+fn a_function_called_at_once_uses_what_the_scope_has() -> Result<(), EvalError> {
+    let engine = Engine::new();
+    let ast = engine.compile("fn first(list) { list.push(1); list.len() } fn text() { \"a text\" } fn none() { }")?;
+    let mut scope = Scope::new()?;
+    for _ in 0..3 {
+        let list: Array = vec![Value::Int(7), Value::from("x")].into();
+        assert_eq!(engine.call_fn::<i64>(&mut scope, &ast, "first", (list,))?, 3);
+        assert_eq!(engine.call_fn::<String>(&mut scope, &ast, "text", ())?, "a text");
+        assert_eq!(engine.call_fn::<()>(&mut scope, &ast, "none", ()), Ok(()));
+    }
+    // (a variable more: the script is compiled again)
+    scope.push("later", 5)?;
+    assert_eq!(engine.call_fn::<String>(&mut scope, &ast, "text", ())?, "a text");
+    assert_eq!(scope.get::<i64>("later"), Some(5));
+    let mut other = Engine::new();
+    other.set_max_memory(1_000_000);
+    let grows = other.compile("fn grows() { let a = [0]; loop { a += a; } }")?;
+    assert!(matches!(other.call_fn::<()>(&mut scope, &grows, "grows", ()), Err(EvalError::OutOfMemory { .. })));
+    assert_eq!(scope.get::<i64>("later"), Some(5));
     Ok(())
 }

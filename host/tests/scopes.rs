@@ -34,3 +34,18 @@ fn a_scope_may_be_asked_extended_and_cleared() -> Result<(), EvalError> {
     assert!(engine.run_with_scope(&mut scope, "x").is_err());
     Ok(())
 }
+
+#[test]
+fn deep_calls_leave_no_memory_behind() -> Result<(), EvalError> {
+    let mut engine = Engine::new();
+    engine.set_max_call_levels(200_000);
+    let mut scope = Scope::of([("kept", "a variable from before")])?;
+    let ast = engine.compile("fn deep(n) { if n == 0 { 0 } else { 1 + deep(n - 1) } } let depth = deep(100_000);")?;
+    engine.run_ast_with_scope(&mut scope, &ast)?;
+    assert_eq!(scope.get::<i64>("depth"), Some(100_000));
+    assert_eq!(scope.get::<String>("kept").as_deref(), Some("a variable from before"));
+    // (each of these calls had a value of 48 bytes in its frame, and a caller)
+    assert!(scope.memory().held < 100_000, "{:?}", scope.memory());
+    assert!(scope.memory().most > 5_000_000, "{:?}", scope.memory());
+    Ok(())
+}

@@ -3,6 +3,7 @@
 //! one after the other.
 #![tactic(auto)]
 
+mod answers;
 mod debugger;
 mod journal;
 mod session;

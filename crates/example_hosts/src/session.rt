@@ -2,10 +2,11 @@
 //! empty line ends a run, after which it collects unreachable cells. The line `replay` executes all
 //! commands again on a new world.
 
+use crate::answers::{answered, print_answer};
 use crate::journal::Journal;
 use anyhow::Result;
-use rhai_lines::{command, write_answer};
-use rhai_run::{World, apply};
+use rhai_lines::command;
+use rhai_run::World;
 
 /// Executes the command of a line, prints its answer, and records both.
 fn do_line(
@@ -18,11 +19,8 @@ fn do_line(
         println!(rt; "no command: {line}")?;
         return Ok(());
     };
-    let answer = apply(world, &command)?;
-    let mut printed = Vec::new(rt.alloc());
-    write_answer(&answer, &mut printed)?;
-    let text = String::from_utf8_lossy(rt.alloc(), &printed)?;
-    print!(rt; "{text}")?;
+    let printed = answered(rt.alloc(), world, &command)?;
+    print_answer(rt, &printed)?;
     journal.keep(command, &printed)?;
     Ok(())
 }

@@ -12,17 +12,39 @@ use crate::told::{Told, told_of};
 use rhai_run::{Answer, Bytes};
 use rhai_show::hashed;
 use rhai_text::Position;
-use rhai_value::{Dynamic, INT, Store, Union};
-use script_engine::{Engine, Unread, read_value};
+use rhai_value::{Array, Dynamic, INT, Store, Union};
+use script_engine::{Engine, Unread, read_array, read_value};
 use std::alloc::{AllocError, Global};
 
-/// A value as a host reads it: unit, a boolean and an int as they are, and others as their hash
-/// bytes.
-#[derive(Drop)]
-pub(crate) enum Seen {
+/// A value that crosses in numbers.
+#[derive(Clone, Copy)]
+pub(crate) enum Scalar {
     Unit,
     Bool(bool),
     Int(INT),
+}
+
+/// Returns a value that crosses in numbers; `None` if it doesn't.
+pub(crate) fn scalar_of(value: &Dynamic) -> Option<Scalar> {
+    match value.parts() {
+        Union::Unit(_, _, _) => Some(Scalar::Unit),
+        Union::Bool(_, _, truth) => Some(Scalar::Bool(*truth)),
+        Union::Int(_, _, number) => Some(Scalar::Int(*number)),
+        Union::Str(_, _, _)
+        | Union::Char(_, _, _)
+        | Union::Blob(_, _, _)
+        | Union::Array(_, _, _)
+        | Union::Map(_, _, _)
+        | Union::FnPtr(_, _, _)
+        | Union::Variant(_, _, _)
+        | Union::Shared(_, _, _) => None,
+    }
+}
+
+/// A value as a host reads it: in numbers, or else as its hash bytes.
+#[derive(Drop)]
+pub(crate) enum Seen {
+    Scalar(Scalar),
     Bytes(Bytes),
 }
 
@@ -35,21 +57,12 @@ pub(crate) fn seen_of(
     let Some(value) = value else {
         return Ok(None);
     };
-    match value.parts() {
-        Union::Unit(_, _, _) => Ok(Some(Seen::Unit)),
-        Union::Bool(_, _, truth) => Ok(Some(Seen::Bool(*truth))),
-        Union::Int(_, _, number) => Ok(Some(Seen::Int(*number))),
-        Union::Str(_, _, _)
-        | Union::Char(_, _, _)
-        | Union::Blob(_, _, _)
-        | Union::Array(_, _, _)
-        | Union::Map(_, _, _)
-        | Union::FnPtr(_, _, _)
-        | Union::Variant(_, _, _)
-        | Union::Shared(_, _, _) => match hashed(alloc, value, store)? {
-            Some(hashed) => Ok(Some(Seen::Bytes(Bytes::new(hashed.into_bytes(alloc)?)))),
-            None => Ok(None),
-        },
+    if let Some(scalar) = scalar_of(value) {
+        return Ok(Some(Seen::Scalar(scalar)));
+    }
+    match hashed(alloc, value, store)? {
+        Some(hashed) => Ok(Some(Seen::Bytes(Bytes::new(hashed.into_bytes(alloc)?)))),
+        None => Ok(None),
     }
 }
 
@@ -62,15 +75,15 @@ pub(crate) fn tell_value(
     ensures { IsReported result kept.old kept.new told.old told.new }
 {
     match value {
-        Ok(Some(Seen::Unit)) => {
+        Ok(Some(Seen::Scalar(Scalar::Unit))) => {
             *told = told_of(&Answer::Done);
             DONE
         }
-        Ok(Some(Seen::Bool(truth))) => {
+        Ok(Some(Seen::Scalar(Scalar::Bool(truth)))) => {
             *told = told_of(&Answer::Bool(truth));
             DONE
         }
-        Ok(Some(Seen::Int(number))) => {
+        Ok(Some(Seen::Scalar(Scalar::Int(number)))) => {
             *told = told_of(&Answer::Int(i128::from(number)));
             DONE
         }
@@ -150,8 +163,23 @@ pub extern "C" fn rhai_host_script_value(alloc: Global, handle: &mut Handle, tol
 pub(crate) fn value_in(alloc: Global, bytes: &[u8]) -> Result<Dynamic, u32> {
     match read_value(alloc, bytes) {
         Ok(value) => Ok(value),
-        Err(Unread::Form) => Err(NO_COMMAND),
-        Err(Unread::Memory) => Err(OUT_OF_MEMORY),
+        Err(why) => Err(status_of_unread(why)),
+    }
+}
+
+/// Reads the arguments of a call from the hash bytes of an array of them.
+/// Errors: the status that says why there are none.
+pub(crate) fn arguments_in(alloc: Global, bytes: &[u8]) -> Result<Array, u32> {
+    match read_array(alloc, bytes) {
+        Ok(arguments) => Ok(arguments),
+        Err(why) => Err(status_of_unread(why)),
+    }
+}
+
+fn status_of_unread(why: Unread) -> u32 {
+    match why {
+        Unread::Form => NO_COMMAND,
+        Unread::Memory => OUT_OF_MEMORY,
     }
 }
 

@@ -4,14 +4,14 @@ ghost use Rattle.std.specs.Prelude.{◌≡◌};
 ghost use Rattle.rhai_host.specs.Content.{content};
 ghost use Rattle.rhai_host.specs.Engines.{KeepsWorld, OnScripts};
 
-use crate::answering::{status_of, value_in};
+use crate::answering::{Scalar, arguments_in, scalar_of, status_of};
 use crate::handle::Handle;
 use crate::handle::kept::Kept;
 use crate::perform::{CLOSED, DONE, NO_COMMAND, OUT_OF_MEMORY};
 use crate::texts::text_in;
 use rhai_run::{Answer, Bytes};
 use rhai_text::{Limits, Position};
-use rhai_value::{Array, Dynamic, INT, Union};
+use rhai_value::{Dynamic, INT};
 use script_code::HostName;
 use script_engine::{Engine, Step};
 use script_run::{Run, RunLimits, ScriptError};
@@ -57,42 +57,32 @@ pub struct ScriptStop {
     pub third: i64,
 }
 
-/// A value as a stop reports it: its kind, and a boolean or an int.
+/// What a stop reports of a value: its kind, and a boolean or an int.
 #[derive(Clone, Copy)]
-struct Scalar {
+struct Reported {
     kind: u32,
     number: INT,
 }
 
 /// No value, or one that a stop doesn't report.
-const NO_SCALAR: Scalar = Scalar { kind: 6, number: 0 };
+const NOT_REPORTED: Reported = Reported { kind: 6, number: 0 };
 
-fn scalar_of(value: &Dynamic) -> Scalar {
-    match value.parts() {
-        Union::Unit(_, _, _) => Scalar { kind: 0, number: 0 },
-        Union::Bool(_, _, truth) => Scalar {
+fn report_of(value: &Dynamic) -> Reported {
+    match scalar_of(value) {
+        Some(Scalar::Unit) => Reported { kind: 0, number: 0 },
+        Some(Scalar::Bool(truth)) => Reported {
             kind: 1,
-            number: INT::from(*truth),
+            number: INT::from(truth),
         },
-        Union::Int(_, _, number) => Scalar {
-            kind: 2,
-            number: *number,
-        },
-        Union::Str(_, _, _)
-        | Union::Char(_, _, _)
-        | Union::Blob(_, _, _)
-        | Union::Array(_, _, _)
-        | Union::Map(_, _, _)
-        | Union::FnPtr(_, _, _)
-        | Union::Variant(_, _, _)
-        | Union::Shared(_, _, _) => NO_SCALAR,
+        Some(Scalar::Int(number)) => Reported { kind: 2, number },
+        None => NOT_REPORTED,
     }
 }
 
-fn argument_of(run: &Run, number: usize) -> Scalar {
+fn argument_of(run: &Run, number: usize) -> Reported {
     match run.argument(number) {
-        Some(argument) => scalar_of(argument),
-        None => NO_SCALAR,
+        Some(argument) => report_of(argument),
+        None => NOT_REPORTED,
     }
 }
 
@@ -112,10 +102,10 @@ fn tell_call(run: &Run, function: u32, stop: &mut ScriptStop) {
 }
 
 /// Reports the value of a run or a function.
-fn tell_scalar(value: &Dynamic, stop: &mut ScriptStop) {
-    let scalar = scalar_of(value);
-    stop.value_kind = scalar.kind;
-    stop.value = scalar.number;
+fn tell_result(value: &Dynamic, stop: &mut ScriptStop) {
+    let result = report_of(value);
+    stop.value_kind = result.kind;
+    stop.value = result.number;
 }
 
 /// Reports a stop of this kind at a position, with what was printed and the message, as far as the
@@ -176,14 +166,14 @@ pub(crate) fn tell_step(alloc: Global, kept: &mut Kept, stop: &mut ScriptStop, s
     match step {
         Step::Done => {
             tell_stop(kept, stop, 0, Position::NONE, "");
-            tell_scalar(kept.engine.value(), stop);
+            tell_result(kept.engine.value(), stop);
         }
         Step::Paused => tell_stop(kept, stop, 1, place, ""),
         Step::Statement => tell_stop(kept, stop, 3, place, ""),
         Step::Memory => tell_stop(kept, stop, 4, place, ""),
         Step::Answered => {
             tell_stop(kept, stop, 7, place, "");
-            tell_scalar(kept.engine.value(), stop);
+            tell_result(kept.engine.value(), stop);
         }
         Step::Calls(number) => {
             tell_stop(kept, stop, 2, place, "");
@@ -315,6 +305,18 @@ pub extern "C" fn rhai_host_script_compile(
     status
 }
 
+/// Returns the limits on sizes and calls; others are the host's.
+fn limits_of(text: usize, items: usize, entries: usize, calls: usize) -> RunLimits {
+    RunLimits {
+        sizes: Limits { text, items },
+        entries,
+        output: 0,
+        memory: 0,
+        operations: u64::MAX,
+        calls,
+    }
+}
+
 /// Starts a run of the script over the variables, with the largest sizes of texts, arrays and maps,
 /// 0 meaning no limit, and the deepest nesting of calls. Without its body, it has ended at once,
 /// and functions can be called.
@@ -333,14 +335,7 @@ pub extern "C" fn rhai_host_script_begin(
     let Some(mut kept) = handle.take(alloc) else {
         return CLOSED;
     };
-    let limits = RunLimits {
-        sizes: Limits { text, items },
-        entries,
-        output: 0,
-        memory: 0,
-        operations: u64::MAX,
-        calls,
-    };
+    let limits = limits_of(text, items, entries, calls);
     let status = status_of(kept.engine.begin(&limits, with_body));
     handle.put(kept);
     status
@@ -359,6 +354,24 @@ pub extern "C" fn rhai_host_script_stop_at_statements(
         return CLOSED;
     };
     kept.engine.stop_at_statements(stops);
+    handle.put(kept);
+    DONE
+}
+
+/// Sets whether this run and later ones note which printed lines are those of `debug`, for
+/// `rhai_host_script_debugs`.
+#[unsafe(no_mangle)]
+pub extern "C" fn rhai_host_script_note_debugs(
+    alloc: Global,
+    handle: &mut Handle,
+    notes: bool,
+) -> u32
+    ensures { OnScripts result (content handle.old) (content handle.new) }
+{
+    let Some(mut kept) = handle.take(alloc) else {
+        return CLOSED;
+    };
+    kept.engine.note_debugs(notes);
     handle.put(kept);
     DONE
 }
@@ -382,20 +395,11 @@ pub extern "C" fn rhai_host_script_go(
     DONE
 }
 
-/// Reads the arguments of a call from the hash bytes of an array of them.
-/// Errors: the status that says why there are none.
-pub(crate) fn arguments_in(alloc: Global, engine: &Engine, bytes: &[u8]) -> Result<Array, u32> {
-    match value_in(alloc, bytes)?.into_array(alloc, engine.store()) {
-        Ok(arguments) => Ok(arguments),
-        Err(_) => Err(NO_COMMAND),
-    }
-}
-
 fn call(alloc: Global, engine: &mut Engine, name: &[u8], arguments: &[u8]) -> u32 {
     let Some(name) = text_in(name) else {
         return NO_COMMAND;
     };
-    match arguments_in(alloc, engine, arguments) {
+    match arguments_in(alloc, arguments) {
         Ok(arguments) => status_of(engine.call(name, arguments)),
         Err(status) => status,
     }
@@ -416,6 +420,69 @@ pub extern "C" fn rhai_host_script_call(
         return CLOSED;
     };
     let status = call(alloc, &mut kept.engine, name, arguments);
+    handle.put(kept);
+    status
+}
+
+fn call_at_once(
+    alloc: Global,
+    kept: &mut Kept,
+    limits: &RunLimits,
+    name: &[u8],
+    arguments: &[u8],
+    operations: u64,
+    stop: &mut ScriptStop,
+) -> u32
+    ensures { KeepsWorld kept.old kept.new }
+{
+    let Some(name) = text_in(name) else {
+        return NO_COMMAND;
+    };
+    let arguments = match arguments_in(alloc, arguments) {
+        Ok(arguments) => arguments,
+        Err(status) => return status,
+    };
+    match kept
+        .engine
+        .call_at_once(limits, name, arguments, operations)
+    {
+        Ok(Some(step)) => {
+            tell_step(alloc, kept, stop, step);
+            if stop.kind == 0 && stop.value_kind != NOT_REPORTED.kind {
+                kept.engine.end();
+            }
+            DONE
+        }
+        Ok(None) => NO_COMMAND,
+        Err(_) => OUT_OF_MEMORY,
+    }
+}
+
+/// Starts a run as `rhai_host_script_begin` does, of a script that has no statements outside
+/// functions, calls one of its functions as `rhai_host_script_call` does, and continues for at most
+/// this many operations. A run that is done has ended, if the stop reports its value. NO_COMMAND
+/// means that there is no run: the script has such statements, or no such function, or no operation
+/// is left for the function, or it is not a script for these variables.
+#[unsafe(no_mangle)]
+pub extern "C" fn rhai_host_script_call_at_once(
+    alloc: Global,
+    handle: &mut Handle,
+    text: usize,
+    items: usize,
+    entries: usize,
+    calls: usize,
+    name: &[u8],
+    arguments: &[u8],
+    operations: u64,
+    stop: &mut ScriptStop,
+) -> u32
+    ensures { OnScripts result (content handle.old) (content handle.new) }
+{
+    let Some(mut kept) = handle.take(alloc) else {
+        return CLOSED;
+    };
+    let limits = limits_of(text, items, entries, calls);
+    let status = call_at_once(alloc, &mut kept, &limits, name, arguments, operations, stop);
     handle.put(kept);
     status
 }

@@ -3,8 +3,8 @@
 ghost use Rattle.rhai_host.specs.Content.{content};
 ghost use Rattle.rhai_host.specs.Engines.{AnswersValue, KeepsWorld, OnScripts};
 
-use crate::answering::{seen_of, status_of, tell_value, value_in};
-use crate::engine::{ScriptStop, arguments_in, tell_step, tell_stop};
+use crate::answering::{arguments_in, seen_of, status_of, tell_value, value_in};
+use crate::engine::{ScriptStop, tell_step, tell_stop};
 use crate::handle::Handle;
 use crate::handle::kept::Kept;
 use crate::perform::{CLOSED, DONE, NO_COMMAND, OUT_OF_MEMORY};
@@ -163,16 +163,17 @@ pub extern "C" fn rhai_host_script_change(alloc: Global, handle: &mut Handle, va
 }
 
 fn call(alloc: Global, engine: &mut Engine, number: usize, arguments: &[u8]) -> u32 {
-    match arguments_in(alloc, engine, arguments) {
-        Ok(arguments) => status_of(engine.call_kept(number, arguments.as_slice())),
+    match arguments_in(alloc, arguments) {
+        Ok(arguments) => status_of(engine.call_kept(number, arguments)),
         Err(status) => status,
     }
 }
 
 /// Starts a call of a kept function with these arguments: the hash bytes of an array of them. While
 /// a host function is being called, the run continues to a stop of kind 7 or 8, after which that
-/// call is open as before. Otherwise the script's body has to be done, and no call may be open.
-/// NO_COMMAND means that neither is the case, or that no such function takes this many arguments.
+/// call is open as before, or of kind 0, by `exit`, after which it is not. Otherwise the script's
+/// body has to be done, and no call may be open. NO_COMMAND means that neither is the case, or that
+/// no such function takes this many arguments.
 #[unsafe(no_mangle)]
 pub extern "C" fn rhai_host_function_call(
     alloc: Global,

@@ -38,6 +38,12 @@ pub extern "C" fn rhai_host_script_snapshot(
 
 fn world_bytes(alloc: Global, world: &World) -> Result<Option<Bytes>, AllocError> {
     let mut snapshot = Snapshot::new(alloc, world.store(), WORLD)?;
+    for (k, token) in world.marks().iter().enumerate() {
+        if let Some(content) = world.marked_content(k) {
+            snapshot.add_mark(token, content)?;
+        }
+    }
+    snapshot.end()?;
     for (name, _, value) in world.scope().iter_raw(world.store()) {
         snapshot.add_named(name, value)?;
     }
@@ -49,8 +55,10 @@ fn world_bytes(alloc: Global, world: &World) -> Result<Option<Bytes>, AllocError
     Ok(Some(Bytes::new(snapshot.into_bytes()?)))
 }
 
-/// Returns a snapshot of the world: the byte 2; the entries, the newest first, each behind the byte
-/// 1, and 0 after the last one; the values of the hand in the same way; and what each cell holds.
+/// Returns a snapshot of the world: the byte 2; the byte 1 for each open mark, the oldest first,
+/// and 0 after the last one; the entries, the newest first, each behind the byte 1, and 0 after the
+/// last one; the values of the hand in the same way; and what each cell holds. The first cells are
+/// those of the marks.
 #[unsafe(no_mangle)]
 pub extern "C" fn rhai_host_snapshot(alloc: Global, handle: &mut Handle, told: &mut Told) -> u32
     ensures { AnswersBytes result (content handle.old) (content handle.new) told.old told.new }

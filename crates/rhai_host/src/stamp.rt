@@ -3,4 +3,4 @@
 /// Does nothing: its name is a sum of all that is exported, so that a host of other declarations
 /// doesn't link.
 #[unsafe(no_mangle)]
-pub extern "C" fn rhai_host_stamp_4e4dc850c2f8c7ba() {}
+pub extern "C" fn rhai_host_stamp_ba0687403f83718c() {}

@@ -1,9 +1,10 @@
 //! A look at a paused or failed run: the active functions, and the visible variables of each.
 ghost use Rattle.rhai_host.specs.Content.{content};
-ghost use Rattle.rhai_host.specs.Engines.{AnswersBytes, AnswersValue, OnScripts};
+ghost use Rattle.rhai_host.specs.Engines.{AnswersBytes, AnswersValue, AreAnswered, OnScripts};
 
 use crate::answering::{Seen, seen_of, tell_bytes, tell_value, text_bytes};
 use crate::handle::Handle;
+use crate::handle::kept::Kept;
 use crate::perform::{CLOSED, DONE, NO_COMMAND, OUT_OF_MEMORY};
 use crate::told::Told;
 use rhai_run::Bytes;
@@ -49,6 +50,46 @@ pub extern "C" fn rhai_host_script_function(
     };
     let bytes = function_at(alloc, &kept.engine, number, line, column);
     let status = tell_bytes(&mut kept, bytes, told);
+    handle.put(kept);
+    status
+}
+
+/// Writes the notes on lines of `debug`, four numbers of eight bytes each, and drops them.
+fn debug_bytes(alloc: Global, engine: &mut Engine) -> Result<Option<Bytes>, AllocError> {
+    let mut bytes = Vec::new(alloc);
+    for line in engine.debugs() {
+        bytes.extend_from_slice(&(line.begin as u64).to_le_bytes())?;
+        bytes.extend_from_slice(&(line.length as u64).to_le_bytes())?;
+        bytes.extend_from_slice(&u64::from(line.position.line()).to_le_bytes())?;
+        bytes.extend_from_slice(&u64::from(line.position.position()).to_le_bytes())?;
+    }
+    engine.forget_debugs();
+    Ok(Some(Bytes::new(bytes)))
+}
+
+fn tell_debugs(alloc: Global, kept: &mut Kept, told: &mut Told) -> u32
+    ensures { AreAnswered result kept.old kept.new told.old told.new }
+{
+    let bytes = debug_bytes(alloc, &mut kept.engine);
+    tell_bytes(kept, bytes, told)
+}
+
+/// Returns which lines `debug` printed of those that the last stop reported, for each four numbers
+/// of eight bytes: how many printed bytes are before it, how many it has with its line feed, and
+/// the line and column of the call. Each is returned once. There are none before
+/// `rhai_host_script_note_debugs`.
+#[unsafe(no_mangle)]
+pub extern "C" fn rhai_host_script_debugs(
+    alloc: Global,
+    handle: &mut Handle,
+    told: &mut Told,
+) -> u32
+    ensures { AnswersBytes result (content handle.old) (content handle.new) told.old told.new }
+{
+    let Some(mut kept) = handle.take(alloc) else {
+        return CLOSED;
+    };
+    let status = tell_debugs(alloc, &mut kept, told);
     handle.put(kept);
     status
 }

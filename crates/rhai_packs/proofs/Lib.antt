@@ -1,5 +1,8 @@
 mod Found
+mod Masks
 mod Mixed
+mod Moving
+mod Overwriting
 mod Padding
 mod Parts
 mod Repeats

@@ -1,7 +1,7 @@
 -- Parts of texts.
-use Rattle.std.proofs.Common.{◌≡◌, ℕ, ◌+◌, ◌-◌, ℤ, true, List, [], ◌++◌, length, take, drop, sym, ap, ◌∙◌, length-drop}
+use Rattle.std.proofs.Common.{◌≡◌, ℕ, ◌+◌, ◌-◌, ℤ, true, List, [], ◌++◌, length, take, drop, sym, ap, ◌∙◌, arith, length-drop}
 use Rattle.std.proofs.Math.Seq.{drop-length}
-use Rattle.std.proofs.lemmas.List.{append-nil, drop-take}
+use Rattle.std.proofs.lemmas.List.{append-nil, drop-take, take_all}
 use Rattle.std.proofs.lemmas.Str.{chars-nil}
 use Rattle.std.specs.Str.{chars}
 use Rattle.rhai_text.specs.Text.{with_slice}
@@ -18,7 +18,7 @@ rest_kept xs made a m = m ∙ ap (λ s. s ++ drop a xs) chars-nil
 pub first_kept : (xs : List ℕ) (n : ℤ) (l k : ℕ) → l ≡ length xs → k ≡ part_count l n → take k xs ≡ first_of xs n
 first_kept xs n l k el ek = ap (λ m. take m xs) (ek ∙ ap (λ m. part_count m n) el)
 
-pub part_kept : (xs : List ℕ) (i n : ℤ) (l a k : ℕ) → l ≡ length xs → a ≡ cut_place l i → k ≡ part_count (l - a) n → take k (drop a xs) ≡ first_of (after xs i) n
+pub part_kept : {A : Type 0} (xs : List A) (i n : ℤ) (l a k : ℕ) → l ≡ length xs → a ≡ cut_place l i → k ≡ part_count (l - a) n → take k (drop a xs) ≡ first_of (after xs i) n
 part_kept xs i n l a k el ea ek =
     let start : a ≡ cut_place (length xs) i = ea ∙ ap (λ m. cut_place m i) el in
     let long : k ≡ part_count (length (drop a xs)) n = ek ∙ ap (λ m. part_count (m - a) n) el ∙ ap (λ m. part_count m n) (sym (length-drop a xs)) in
@@ -26,3 +26,7 @@ part_kept xs i n l a k el ea ek =
 
 pub from_front : (xs : List ℕ) (a k : ℕ) → a ≡ 0 → take (a + k) xs ≡ take k (drop a xs)
 from_front xs a k e = sym (ap (λ b. drop b (take (a + k) xs)) e) ∙ drop-take a k xs
+
+-- a slice up to the end
+pub slice_kept : (xs made : List ℕ) (l s : ℕ) → l ≡ length xs → made ≡ take (l - s) (drop s xs) → made ≡ drop s xs
+slice_kept xs made l s el m = m ∙ take_all (l - s) (drop s xs) (omega (arith, el, length-drop s xs))

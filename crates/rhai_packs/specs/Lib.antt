@@ -1,3 +1,4 @@
+pub mod Bits
 pub mod Entries
 pub mod Held
 pub mod Padding
@@ -9,3 +10,4 @@ pub mod Sizes
 pub mod Sorting
 pub mod Splits
 pub mod Texts
+pub mod Written

@@ -1,5 +1,5 @@
 -- The meaning of a script's indices and lengths in a list.
-use Rattle.std.specs.Prelude.{ℕ, suc, ℤ, pos, negsuc, ◌-◌, min, List, length, take, drop, slice_get, slice_set, Option, Some, None, option_and_then}
+use Rattle.std.specs.Prelude.{ℕ, suc, ℤ, pos, negsuc, ◌+◌, ◌-◌, min, List, ◌++◌, length, take, drop, slice_get, slice_set, Option, Some, None, option_and_then}
 use Rattle.std.specs.List.{remove}
 use Rattle.rhai_value.specs.Steps.{item_place}
 
@@ -37,6 +37,10 @@ after xs i = drop (cut_place (length xs) i) xs
 -- the first items of a list, at most as many as there are; none for a negative number
 abbrev pub first_of : {A : Type 0} → List A → ℤ → List A
 first_of xs n = take (part_count (length xs) n) xs
+
+-- the list without these items, of which the first is at an index
+abbrev pub without_part : {A : Type 0} → List A → ℤ → ℤ → List A
+without_part xs i n = before xs i ++ drop (cut_place (length xs) i + part_count (length xs - cut_place (length xs) i) n) xs
 
 -- the last items of a list in the same way
 abbrev pub last_of : {A : Type 0} → List A → ℤ → List A

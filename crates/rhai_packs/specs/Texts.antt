@@ -1,7 +1,7 @@
 -- Searching in texts, and making texts. A text is its UTF-8 bytes.
-use Rattle.std.specs.Prelude.{◌≡◌, ℕ, ◌-◌, ◌++◌, true, false, List, length, take, Option, Some, None, Result, Ok, Err}
+use Rattle.std.specs.Prelude.{◌≡◌, ◌<◌, ◌≤◌, ◌⊎◌, ℕ, ◌+◌, ◌-◌, ◌++◌, true, false, List, [], ◌∷◌, length, take, drop, Option, Some, None, option_map, Result, Ok, Err}
 use Rattle.std.specs.Borrow.{Bor}
-use Rattle.std.specs.Str.{chars}
+use Rattle.std.specs.Str.{chars, encode_utf8_all}
 use Rattle.std.specs.Str.Pattern.{FindsText}
 use Rattle.std.specs.Str.Replace.{ReplacesMatches}
 use Rattle.rhai_text.specs.declared.error.EvalAltResult.{EvalAltResult}
@@ -41,3 +41,16 @@ IsRefusedText l n Makes (ErrorArithmetic f p) = ⊥
 abbrev pub IsFoundAt : List ℕ → List ℕ → Option ℕ → Type 0
 IsFoundAt text part None = FindsText part text None
 IsFoundAt text part (Some k) = (i : ℕ) × (j : ℕ) × FindsText part text (Some (i, j)) × (k ≡ length (chars (take i text)))
+
+-- The number of characters before the first occurrence of the part that begins at character k or
+-- behind it. There is none if the text has no character k.
+abbrev pub IsFoundFrom : List ℕ → List ℕ → ℕ → Option ℕ → Type 0
+IsFoundFrom text part k r =
+    ((length text ≤ k) × (r ≡ None))
+    ⊎ ((k < length text) × ((found : Option ℕ) × IsFoundAt (encode_utf8_all (drop k text)) part found × (r ≡ option_map (λ n. k + n) found)))
+
+-- the character of a list that has one, and otherwise another
+abbrev pub only_or : ℕ → List ℕ → ℕ
+only_or other [] = other
+only_or other (c ∷ []) = c
+only_or other (c ∷ d ∷ ds) = other

@@ -11,6 +11,7 @@ ghost use Rattle.rhai_packs.specs.Places.{cut_place as place_of_cut, part_count,
 ghost use Rattle.rhai_packs.specs.Sizes.{IsLimited, may_grow as may_grow_by};
 
 mod copies;
+mod moved;
 mod repeats;
 mod search;
 mod sorting;
@@ -18,6 +19,7 @@ mod sorting;
 use crate::places::{at_most, cut_place};
 use crate::sizes::{may_grow, too_large};
 pub use copies::{extract, pad};
+pub use moved::{drain, retain};
 pub use repeats::dedup;
 use rhai_text::{EvalAltResult, Limits, SizeKind};
 use rhai_value::{Array, Dynamic, INT, item_place};

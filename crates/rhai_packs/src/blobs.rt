@@ -5,6 +5,9 @@
 //! out of range or a blob is empty, these calls return `None` or `false`. An int is converted to a
 //! byte by its low eight bits.
 ghost use Rattle.std.specs.Prelude.{◌≡◌, ◌++◌, ◌∷◌, ◌↔◌, [], pos, length, map, replicate, reverse, is_ok, is_some, if◌then◌else◌, option_map, IfOk, IsOk, IsTrue, OnErr, OnOk, MatchOption};
+ghost use Rattle.std.specs.List.{Contains};
+ghost use Rattle.std.specs.Str.{chars};
+ghost use Rattle.std.specs.Str.Lossy.{utf8_lossy};
 ghost use Rattle.rhai_text.specs.declared.error.SizeKind.TheVariants as size;
 ghost use Rattle.rhai_value.specs.Bytes.{low_byte};
 ghost use Rattle.rhai_value.specs.Steps.{item_place as place_of_item};
@@ -12,11 +15,14 @@ ghost use Rattle.rhai_value.specs.Tree.{fresh, int};
 ghost use Rattle.rhai_packs.specs.Places.{after, first_of, item_at, missing as missing_of, with_placed, without_placed};
 ghost use Rattle.rhai_packs.specs.Sizes.{IsLimited, may_grow as may_grow_by};
 
+mod written;
+
 use crate::places::{at_most, cut_place, missing};
 use crate::sizes::{may_grow, too_large};
-use rhai_text::{EvalAltResult, Limits, SizeKind};
+use rhai_text::{EvalAltResult, ImmutableString, Limits, SizeKind};
 use rhai_value::{Array, Blob, Dynamic, INT, item_place};
 use std::alloc::{AllocError, Global};
+pub use written::{parse_be_int, parse_le_int, write_ascii, write_be, write_le, write_utf8};
 
 /// The low byte of an int.
 fn low_byte_of(number: INT) -> u8
@@ -47,6 +53,33 @@ pub fn len(bytes: &Blob) -> usize
     ensures { result ≡ length bytes.now.items }
 {
     bytes.len()
+}
+
+/// Returns whether the blob is empty.
+/// Cost: constant.
+/// rhai: `is_empty`.
+pub fn is_empty(bytes: &Blob) -> bool
+    ensures { IsTrue result ↔ (bytes.now.items ≡ []) }
+{
+    bytes.is_empty()
+}
+
+/// Returns whether the blob contains a byte.
+/// Cost: the number of bytes.
+/// rhai: `contains`.
+pub fn contains(bytes: &Blob, byte: INT) -> bool
+    ensures { IsTrue result ↔ Contains bytes.now.items (low_byte byte) }
+{
+    bytes.contains(&low_byte_of(byte))
+}
+
+/// Removes all bytes.
+/// Cost: constant.
+/// rhai: `clear`.
+pub fn clear(bytes: &mut Blob)
+    ensures { bytes.new.items ≡ [] }
+{
+    bytes.clear();
 }
 
 /// Returns the byte at an index as an int, if there is one.
@@ -151,6 +184,18 @@ pub fn extract(alloc: Global, bytes: &Blob, index: INT, count: INT) -> Result<Bl
     let start = cut_place(bytes.len(), index);
     let len = at_most(bytes.len() - start, count);
     Vec::from_slice(alloc, &bytes.as_slice()[start..start + len])
+}
+
+/// Makes the text that the bytes spell in UTF-8; each invalid sequence becomes a replacement
+/// character.
+/// Errors: an allocation fails.
+/// Cost: the number of bytes.
+/// rhai: `as_string`.
+pub fn as_string(alloc: Global, bytes: &Blob) -> Result<ImmutableString, AllocError>
+    ensures { IfOk result (λ text. text ≡ chars (utf8_lossy bytes.now.items)) }
+{
+    let text = String::from_utf8_lossy(alloc, bytes.as_slice())?;
+    ImmutableString::from_str(alloc, text.as_str())
 }
 
 /// Makes an array of the bytes as ints.

@@ -1,7 +1,7 @@
 //! Ints.
-ghost use Rattle.std.specs.Prelude.{◌≡◌, pos, negsuc, unsigned_abs, ◌^◌, ◌-◌, IfErr, IfOk, OnErr, OnOk, string_bytes};
-ghost use Rattle.std.specs.Fmt.{signed_decimal};
-ghost use Rattle.std.specs.Int.{w64};
+ghost use Rattle.std.specs.Prelude.{◌≡◌, ◌↔◌, false, pos, negsuc, unsigned_abs, ◌^◌, ◌-◌, ◌%◌, IfErr, IfOk, IsTrue, OnErr, OnOk, string_bytes};
+ghost use Rattle.std.specs.Fmt.{digits, signed_decimal};
+ghost use Rattle.std.specs.Int.{cast_unsigned, int_signum, w64};
 ghost use Rattle.std.specs.Str.{chars, trim};
 ghost use Rattle.std.specs.Str.Parse.{ExplainsSignedError, ParsesSigned};
 ghost use Rattle.std.specs.Ordering.{int_cmp, ord_max, ord_min};
@@ -27,6 +27,42 @@ pub fn abs(number: INT) -> Result<INT, EvalAltResult>
         return Err(EvalAltResult::ErrorArithmetic(ArithmeticFault::Overflow, Position::NONE));
     }
     Ok(number.abs())
+}
+
+/// Returns 1 for an int above 0, 0 for 0, and -1 for an int below.
+/// Cost: constant.
+/// rhai: `sign`.
+pub fn sign(number: INT) -> INT
+    ensures { result ≡ int_signum number }
+{
+    number.signum()
+}
+
+/// Returns whether an int is 0.
+/// Cost: constant.
+/// rhai: `is_zero`.
+pub fn is_zero(number: INT) -> bool
+    ensures { IsTrue result ↔ (number ≡ pos 0) }
+{
+    number == 0
+}
+
+/// Returns whether an int is odd.
+/// Cost: constant.
+/// rhai: `is_odd`.
+pub fn is_odd(number: INT) -> bool
+    ensures { IsTrue result ↔ (unsigned_abs number % 2 ≡ 1) }
+{
+    number.unsigned_abs() % 2 == 1
+}
+
+/// Returns whether an int is even.
+/// Cost: constant.
+/// rhai: `is_even`.
+pub fn is_even(number: INT) -> bool
+    ensures { IsTrue result ↔ (unsigned_abs number % 2 ≡ 0) }
+{
+    number.unsigned_abs() % 2 == 0
 }
 
 /// Returns the lesser of two ints.
@@ -55,6 +91,39 @@ pub fn to_string(alloc: Global, number: INT) -> Result<ImmutableString, AllocErr
     ensures { IfOk result (λ text. text ≡ chars (signed_decimal number)) }
 {
     let written = format!(in alloc; "{number}")?;
+    ImmutableString::from_str(alloc, written.as_str())
+}
+
+/// Writes the 64 bits of an int in hexadecimal, without leading zeros.
+/// Errors: an allocation fails.
+/// Cost: the number of digits.
+/// rhai: `to_hex`.
+pub fn to_hex(alloc: Global, number: INT) -> Result<ImmutableString, AllocError>
+    ensures { IfOk result (λ text. text ≡ chars (digits 16 false (cast_unsigned w64 number))) }
+{
+    let written = format!(in alloc; "{number:x}")?;
+    ImmutableString::from_str(alloc, written.as_str())
+}
+
+/// Writes the 64 bits of an int in octal, without leading zeros.
+/// Errors: an allocation fails.
+/// Cost: the number of digits.
+/// rhai: `to_octal`.
+pub fn to_octal(alloc: Global, number: INT) -> Result<ImmutableString, AllocError>
+    ensures { IfOk result (λ text. text ≡ chars (digits 8 false (cast_unsigned w64 number))) }
+{
+    let written = format!(in alloc; "{number:o}")?;
+    ImmutableString::from_str(alloc, written.as_str())
+}
+
+/// Writes the 64 bits of an int in binary, without leading zeros.
+/// Errors: an allocation fails.
+/// Cost: the number of digits.
+/// rhai: `to_binary`.
+pub fn to_binary(alloc: Global, number: INT) -> Result<ImmutableString, AllocError>
+    ensures { IfOk result (λ text. text ≡ chars (digits 2 false (cast_unsigned w64 number))) }
+{
+    let written = format!(in alloc; "{number:b}")?;
     ImmutableString::from_str(alloc, written.as_str())
 }
 

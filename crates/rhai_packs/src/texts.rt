@@ -1,13 +1,14 @@
 //! Functions on texts. A call that changes a text in rhai's scripts replaces it by a new one; the
 //! others return a new one. Indices and lengths count characters; `Limits` counts bytes.
-ghost use Rattle.std.specs.Prelude.{◌≡◌, ◌++◌, ◌-◌, ◌↔◌, [], ℕ, List, length, map, true, IfErr, IfOk, IsTrue, OnErr, OnOk, string_bytes};
+ghost use Rattle.std.specs.Prelude.{◌≡◌, ◌≤◌, ◌++◌, ◌-◌, ◌↔◌, [], ℕ, List, length, map, true, IfErr, IfOk, IfSome, IsTrue, OnErr, OnOk, string_bytes};
 ghost use Rattle.std.specs.Str.{chars as characters_of, encode_utf8_all, trim as trimmed};
 ghost use Rattle.std.specs.StrCase.Lower.{str_to_lowercase};
 ghost use Rattle.std.specs.StrCase.Upper.{str_to_uppercase};
 ghost use Rattle.rhai_value.specs.Tree.{char, fresh};
-ghost use Rattle.rhai_packs.specs.Places.{after, first_of};
-ghost use Rattle.rhai_packs.specs.Sizes.{may_grow as may_grow_by};
-ghost use Rattle.rhai_packs.specs.Texts.{HasPart, IsFoundAt, IsMadeText, IsRefusedText, IsReplaced};
+ghost use Rattle.rhai_packs.specs.Places.{after, cut_place as place_of_cut, first_of};
+ghost use Rattle.rhai_text.specs.declared.error.SizeKind.TheVariants as size;
+ghost use Rattle.rhai_packs.specs.Sizes.{IsLimited, may_grow as may_grow_by};
+ghost use Rattle.rhai_packs.specs.Texts.{HasPart, IsFoundAt, IsFoundFrom, IsMadeText, IsRefusedText, IsReplaced};
 
 mod cuts;
 mod padding;
@@ -17,7 +18,7 @@ use crate::sizes::{may_grow, too_large};
 pub use cuts::{split, split_at, split_char};
 pub use padding::{pad, pad_with_string};
 use rhai_text::{EvalAltResult, ImmutableString, Limits, SizeKind};
-use rhai_value::{Array, Dynamic, INT};
+use rhai_value::{Array, Blob, Dynamic, INT};
 use std::alloc::{AllocError, Global};
 
 /// Returns the number of characters.
@@ -27,6 +28,33 @@ pub fn len(text: &ImmutableString) -> usize
     ensures { result ≡ length text.now }
 {
     text.char_count()
+}
+
+/// Returns the number of bytes.
+/// Cost: constant.
+/// rhai: `bytes`.
+pub fn bytes(text: &ImmutableString) -> usize
+    ensures { result ≡ length (encode_utf8_all text.now) }
+{
+    text.len()
+}
+
+/// Copies the bytes.
+/// Errors: more bytes than the limit allows, or a failed allocation.
+/// Cost: the number of bytes.
+/// rhai: `to_blob`.
+pub fn to_blob(
+    alloc: Global,
+    limits: &Limits,
+    text: &ImmutableString,
+) -> Result<Blob, EvalAltResult>
+    ensures answer { IsLimited size.Items (may_grow_by limits.now.items 0 (length (encode_utf8_all text.now))) result }
+    ensures bytes { IfOk result (λ made. made.items ≡ encode_utf8_all text.now) }
+{
+    if !may_grow(limits.items, 0, text.len()) {
+        return Err(too_large(SizeKind::Items));
+    }
+    Ok(Vec::from_slice(alloc, text.as_str().as_bytes())?)
 }
 
 fn count(text: &str) -> usize
@@ -215,6 +243,19 @@ pub fn replace(
     }
 }
 
+/// Removes each occurrence of a part, found from left to right without overlaps.
+/// Errors: an allocation fails; the text is unchanged.
+/// Cost: the length of the text.
+/// rhai: `remove`.
+pub fn remove(alloc: Global, text: &mut ImmutableString, part: &str) -> Result<(), AllocError>
+    ensures ok { OnOk result ((out : List ℕ) × IsReplaced (encode_utf8_all text.old) part.entry [] out × (text.new ≡ characters_of out)) }
+    ensures err { OnErr result (text.new ≡ text.old) }
+{
+    let made = text.as_str().replace(alloc, part, "")?;
+    *text = ImmutableString::from_str(alloc, made.as_str())?;
+    Ok(())
+}
+
 /// Finds the first occurrence of a part, and returns the number of characters before it; `None`
 /// where rhai returns -1.
 /// Cost: the length of the text, for a given part.
@@ -225,8 +266,34 @@ pub fn index_of(text: &ImmutableString, part: &str) -> Option<usize>
     place_of(text.as_str(), part)
 }
 
+/// Finds the first occurrence of a part from an index on, and returns the number of characters
+/// before it in the text; `None` where rhai returns -1, as for an index past the last character.
+/// Errors: an allocation fails.
+/// Cost: the length of the text, for a given part; memory for the rest of the text.
+/// rhai: `index_of`.
+pub fn index_of_from(
+    alloc: Global,
+    text: &ImmutableString,
+    part: &str,
+    index: INT,
+) -> Result<Option<usize>, AllocError>
+    ensures { IfOk result (IsFoundFrom text.now part.now (place_of_cut (length text.now) index)) }
+{
+    let length = len(text);
+    let start = cut_place(length, index);
+    if start == length {
+        return Ok(None);
+    }
+    let rest = text.slice(alloc, start, length, true)?;
+    match place_of(rest.as_str(), part) {
+        Some(place) => Ok(Some(start + place)),
+        None => Ok(None),
+    }
+}
+
 fn place_of(text: &str, part: &str) -> Option<usize>
-    ensures { IsFoundAt text.now part.now result }
+    ensures found { IsFoundAt text.now part.now result }
+    ensures within { IfSome result (λ k. k ≤ length (characters_of text.now)) }
 {
     let place = text.find(part)?;
     let (front, _) = text.split_at(place);

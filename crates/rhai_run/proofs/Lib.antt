@@ -24,6 +24,8 @@ pub mod Step
 pub mod Fitting
 pub mod KeptWorlds
 pub mod Collecting
+pub mod Equivalences
+pub mod NormalForms
 pub mod Refusals
 pub mod Runs
 pub mod GoingOn

@@ -41,7 +41,7 @@ ghost use Rattle.rhai_run.specs.Stop.{StopsAfter};
 ghost use Rattle.rhai_run.specs.Scanners.{visited};
 ghost use Rattle.rhai_run.specs.Fits.{Fits};
 ghost use Rattle.rhai_run.specs.Correspondence.{Corresponds, RunAlike};
-ghost use Rattle.rhai_run.specs.KeptWorld.{Collects, KeepsAllReached, Reaches, kept, kept_pairs, roots};
+ghost use Rattle.rhai_run.specs.KeptWorld.{Collects, KeepsAllReached, Normalizes, Reaches, kept, kept_pairs, roots};
 
 /// The state of a new world fits.
 pub fn empty_state_fits()
@@ -114,6 +114,37 @@ pub fn runs_are_alike()
 /// No run can observe a collection: the answers are those of the world before.
 pub fn collecting_is_not_seen()
     ensures { (w v : State) (h : Collects w v) (commands : List Command) → RunAlike (kept_pairs h.cells) w v commands }
+{}
+
+/// Correspondence is symmetric, and composes.
+pub fn correspondence_is_an_equivalence()
+    ensures symmetric { (r : Renaming) (w v : State) → Corresponds r w v → (q : Renaming) × Corresponds q v w }
+    ensures composes { (r q : Renaming) (w x v : State) → Corresponds r w x → Corresponds q x v → (p : Renaming) × Corresponds p w v }
+{}
+
+/// Each fitting state has a normal form.
+pub fn each_world_has_a_normal_form()
+    ensures { (w : State) → Fits w → (x : State) × Normalizes w x }
+{}
+
+/// States that correspond, for whatever renaming, have the same normal form.
+pub fn corresponding_worlds_have_one_normal_form()
+    ensures { (r : Renaming) (w v x y : State) → Corresponds r w v → Normalizes w x → Normalizes v y → x ≡ y }
+{}
+
+/// States with the same normal form correspond.
+pub fn worlds_with_one_normal_form_correspond()
+    ensures { (w v x : State) → Normalizes w x → Normalizes v x → (r : Renaming) × Corresponds r w v }
+{}
+
+/// A normal form is its own normal form.
+pub fn normal_forms_are_normal()
+    ensures { (w x y : State) → Normalizes w x → Normalizes x y → y ≡ x }
+{}
+
+/// No run can observe that a state was brought to its normal form.
+pub fn normalizing_is_not_seen()
+    ensures { (w v : State) (h : Normalizes w v) (commands : List Command) → RunAlike (kept_pairs h.cells) w v commands }
 {}
 
 /// The result of a scan by a scanner doesn't depend on cell numbers; nor does its number of visits.

@@ -1,7 +1,7 @@
 //! Commands on the list of marks.
-ghost use Rattle.std.specs.Prelude.{◌≡◌, ◌<◌, ◌+◌, true, false, slice_get, vec_len, Some, None, IfOk, IfErr, IfSome};
+ghost use Rattle.std.specs.Prelude.{◌≡◌, ◌<◌, ◌+◌, true, false, slice_get, vec_len, Some, None, option_and_then, option_copied, IfOk, IfErr, IfSome};
 ghost use Rattle.std.specs.List.{remove};
-ghost use Rattle.rhai_value.specs.Store.{is_marked_at, put, set_mark};
+ghost use Rattle.rhai_value.specs.Store.{content_at, is_marked_at, put, set_mark};
 ghost use Rattle.rhai_run.specs.declared.answer.Refusal.TheVariants.{NoMark};
 ghost use Rattle.rhai_run.specs.declared.not_done.NotDone.TheVariants.{Refused};
 ghost use Rattle.rhai_run.specs.Fits.{Fits, MarksAre};
@@ -123,6 +123,24 @@ impl WorldState {
 }
 
 impl World {
+    /// Borrows the open marks, the oldest first.
+    pub fn marks(&self) -> &[WriteToken]
+        ensures { result.now ≡ self.now.marks }
+    {
+        &self.state.marks
+    }
+
+    /// Borrows the content of the cell of the mark at this position; `None` if there is no such
+    /// mark.
+    /// Cost: constant; no memory.
+    #[tactic(auto, using(crate::proofs::MarkLists::mark_is_set))]
+    pub fn marked_content(&self, k: usize) -> Option<&Dynamic>
+        ensures { option_copied result ≡ option_and_then (content_at self.now.store) (slice_get self.now.marks k) }
+    {
+        let token = self.state.marks.get(k)?;
+        Some(self.state.store.through(token))
+    }
+
     /// Marks the cell of the holder at the place: from then on it is read and written only through
     /// the mark. The mark is appended to the list of marks.
     /// Errors: an allocation fails; nothing changes.

@@ -92,10 +92,10 @@ clear_is n k f h =
     int_is _ _ (lt_of_le_of_lt (and_le_l (of_z w64 n) _) (bits_below n f)) (λ i l. clear_digit (of_z w64 n) k i h l (nat_eq i k) refl)
 
 -- ---- a field
-rest_digit : (x i : ℕ) → i < 64 → bit_at (x % 2 ^ 64) i ≡ bit_at x i
+pub rest_digit : (x i : ℕ) → i < 64 → bit_at (x % 2 ^ 64) i ≡ bit_at x i
 rest_digit x i h = sym (bit_at_cat_low (x / 2 ^ 64) 64 (x % 2 ^ 64) i h) ∙ ap (λ y. bit_at y i) (div-add-mod' x (2 ^ 64))
 
-shifted_digit : (v s i : ℕ) (b : Bool) → nat_lt i s ≡ b → bit_at (v * 2 ^ s) i ≡ digit (cond b false (nat_eq (bit_at v (i - s)) 1))
+pub shifted_digit : (v s i : ℕ) (b : Bool) → nat_lt i s ≡ b → bit_at (v * 2 ^ s) i ≡ digit (cond b false (nat_eq (bit_at v (i - s)) 1))
 shifted_digit v s i true e = ap (λ y. bit_at y i) (sym (add-zero (v * 2 ^ s))) ∙ bit_at_cat_low v s 0 i (ltb-true i s e) ∙ bit_at-zero i
 shifted_digit v s i false e =
     ap (λ y. bit_at y i) (sym (add-zero (v * 2 ^ s))) ∙ bit_at_cat_high v s 0 i (pow_pos s) (ltb-false i s e) ∙ bit_digit v (i - s)
@@ -171,7 +171,7 @@ int_of_same f g same =
     ap (to_z w64) (same_from_bits_below 64 (natural 64 f) (natural 64 g) (natural_below 64 f) (natural_below 64 g)
     (λ i l. natural_has 64 f i l ∙ ap digit (same i l) ∙ sym (natural_has 64 g i l)))
 
-down_digit : (x s i : ℕ) → bit_at (x / 2 ^ s) i ≡ bit_at x (i + s)
+pub down_digit : (x s i : ℕ) → bit_at (x / 2 ^ s) i ≡ bit_at x (i + s)
 down_digit x s i =
     let place : i + s - s ≡ i = omega arith in
     sym (ap (bit_at (x / 2 ^ s)) place) ∙ sym (bit_at_cat_high (x / 2 ^ s) s (x % 2 ^ s) (i + s) (mod_below x (2 ^ s) (pow_pos s)) (omega arith))

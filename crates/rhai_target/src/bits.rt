@@ -1,11 +1,12 @@
-//! Bits of an int.
+//! The 64 bits of an int.
 ghost use Rattle.std.specs.Prelude.{◌≡◌, ◌<◌};
 ghost use Rattle.rhai_target.specs.Bits as specs;
 
 use rhai_value::INT;
 
-/// The number with bit `place` set, or cleared.
-pub(crate) fn with_bit(number: INT, place: u8, is_set: bool) -> INT
+/// Returns the number with bit `place` set, or cleared.
+/// Cost: constant.
+pub fn with_bit(number: INT, place: u8, is_set: bool) -> INT
     requires { place < 64 }
     ensures { result ≡ specs.with_bit place is_set number }
 {
@@ -17,24 +18,27 @@ pub(crate) fn with_bit(number: INT, place: u8, is_set: bool) -> INT
     }
 }
 
-/// The number in which the bits of the mask are those of the value, from bit `shift` on.
-pub(crate) fn with_field(number: INT, mask: INT, shift: u8, value: INT) -> INT
+/// Returns the number in which the bits of the mask are those of the value, from bit `shift` on.
+/// Cost: constant.
+pub fn with_field(number: INT, mask: INT, shift: u8, value: INT) -> INT
     requires { shift < 64 }
     ensures { result ≡ specs.with_field mask shift value number }
 {
     number & !mask | value << shift as u32 & mask
 }
 
-/// Whether bit `place` is set.
-pub(crate) fn bit_of(number: INT, place: u8) -> bool
+/// Returns whether bit `place` is set.
+/// Cost: constant.
+pub fn bit_of(number: INT, place: u8) -> bool
     requires { place < 64 }
     ensures { result ≡ specs.bit number place }
 {
     (number.cast_unsigned() >> place as u32) & 1 == 1
 }
 
-/// The bits of the mask, shifted right by `shift`; the vacated bits are zero.
-pub(crate) fn field_of(number: INT, mask: INT, shift: u8) -> INT
+/// Returns the bits of the mask, shifted right by `shift`; the vacated bits are zero.
+/// Cost: constant.
+pub fn field_of(number: INT, mask: INT, shift: u8) -> INT
     requires { shift < 64 }
     ensures { result ≡ specs.field mask shift number }
 {

@@ -2,7 +2,7 @@
 //! integers.
 #![tactic(auto)]
 
-mod bits;
+pub mod bits;
 pub mod laws;
 mod lent;
 mod offset;

@@ -22,7 +22,7 @@ pub use Rattle.rhai_value.proofs.LentPart.{own_at, far_at, found, put_back, read
 -- look-ups after an insertion
 pub use Rattle.rhai_value.proofs.Inserted.{found_inserted}
 -- growing renamings
-pub use Rattle.rhai_value.proofs.Grow.{new_last, one_more, one_more_shared, one_pair, paired_more, pairs_join, related_more, same_added, same_shared_store, same_shared_value}
+pub use Rattle.rhai_value.proofs.Grow.{new_last, one_more, one_more_shared, one_pair, paired_append, paired_more, pairs_join, related_more, same_added, same_shared_store, same_shared_value}
 -- marks
 pub use Rattle.rhai_value.proofs.MarkedCells.{mark_stands, marked_with_first, others_marked}
 -- walks
@@ -41,9 +41,13 @@ pub use Rattle.rhai_value.proofs.Items.{items_back}
 pub use Rattle.rhai_value.proofs.Flags.{or_false}
 -- the list of the cell numbers in a value
 pub use Rattle.rhai_value.proofs.CellNumbers.{cells_renumbered, each_in, each_of}
--- flags, flags of consecutive lists, and ascending numbers
-pub use Rattle.rhai_value.proofs.Flags.{flagged_met, flags_length, flags_rise}
+-- flags, and ascending numbers
+pub use Rattle.rhai_value.proofs.Flags.{flags_rise}
 pub use Rattle.rhai_value.proofs.Rising.{rising_distinct, rising_same}
-pub use Rattle.rhai_value.proofs.Rooted.{met_more}
+-- cells met in consecutive lists, and those reached from them
+pub use Rattle.rhai_value.proofs.Rooted.{flags_counted, met_more, reached_met}
+-- the order in which cells are first reached, and the numbers in related values
+pub use Rattle.rhai_value.proofs.Ordered.{cell_paired, order_distinct, order_reached, orders_paired, values_paired}
+pub use Rattle.rhai_value.proofs.Rounds.{order_exists}
 -- the indices of true
 pub use Rattle.rhai_value.proofs.Trues.{false_more, from_zero, true_more, trues-append}

@@ -8,6 +8,7 @@ pub mod Coatings
 pub mod Copied
 pub mod Copies
 pub mod Ends
+pub mod Firsts
 pub mod Flags
 pub mod ForCallers
 pub mod Fronts
@@ -28,6 +29,8 @@ pub mod Leveled
 pub mod Lists
 pub mod MarkedCells
 pub mod Meetings
+pub mod MovedCells
+pub mod Ordered
 pub mod Paints
 pub mod Parted
 pub mod Paths
@@ -35,6 +38,7 @@ pub mod Placed
 pub mod RelatedCells
 pub mod Rising
 pub mod Rooted
+pub mod Rounds
 pub mod RowWalks
 pub mod SameFlat
 pub mod SameScans

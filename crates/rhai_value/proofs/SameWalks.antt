@@ -4,7 +4,7 @@ use Rattle.std.specs.List.{AllZip}
 use Rattle.rhai_value.specs.declared.cells.store.Cell.{Cell}
 use Rattle.rhai_value.specs.Tree.{Tree, node, holder}
 use Rattle.rhai_value.specs.Store.{at, unmarked}
-use Rattle.rhai_value.specs.Walk.{Visit, entered, barred, revisited, is_open, visit, visit_of, visit_map, unentered, walk_in, walk}
+use Rattle.rhai_value.specs.Walk.{Visit, entered, barred, revisited, is_open, holds_open, visit, visit_of, visit_map, unentered, walk_in, walk}
 use Rattle.rhai_value.specs.End.{End, end_at, site_after, end_of, end}
 use Rattle.rhai_value.specs.Relation.{Renaming, paired, Related, Alike, IsOneToOne, RelatedPaths, RelatedSite, RelatedCells, RelatedEnds}
 use Rattle.rhai_value.proofs.SameTrees.{by_trees}
@@ -35,6 +35,10 @@ same_at r s z c d cells p =
 
 same_open : (r : Renaming) (c d : ℕ) (path road : List ℕ) → IsOneToOne r → Paired r c d → AllZip (Paired r) path road → is_open c path ≡ is_open d road
 same_open r c d path road one p = by_zip (Paired r) (λ path road. is_open c path ≡ is_open d road) refl (λ a b path road q z more. ap₂ (λ v w. v || w) (one c d a b p q) more) path road
+
+-- related values hold open cells on both paths or on neither
+pub same_holds_open : (r : Renaming) (path road : List ℕ) (t u : Tree) → IsOneToOne r → RelatedPaths r path road → Related r t u → holds_open path t ≡ holds_open road u
+same_holds_open r path road t u one zipped = by_trees r (λ t u. holds_open path t ≡ holds_open road u) (λ l g m. refl) (λ k ts us g m e. refl) (λ fs hs g m e. refl) (λ c d g m e. same_open r c d path road one e zipped) t u
 
 visit_of_alike : (r : Renaming) (o q : Option Tree) (a b : Bool) → a ≡ b → Alike (Related r) o q → AlikeVisit (Related r) (visit_of o a) (visit_of q b)
 visit_of_alike r o q a b e h = subst (λ x. AlikeVisit (Related r) (visit_of o a) (visit_of q x)) e (by_alike (Related r) (λ o q. AlikeVisit (Related r) (visit_of o a) (visit_of q a)) tt (either a) o q h)

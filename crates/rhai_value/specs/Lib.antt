@@ -31,6 +31,7 @@ pub mod RowWalks
 pub mod Hollow
 pub mod Reach
 pub mod Meetings
+pub mod Order
 pub mod Renumbers
 pub mod Lent
 pub mod Steps

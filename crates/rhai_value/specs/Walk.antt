@@ -1,6 +1,7 @@
 -- Walks over cells that may form cycles: a cell that is open on the path isn't opened again.
 use Rattle.std.specs.Prelude.{ℕ, zero, suc, Bool, true, false, nat_eq, ◌||◌, List, [], ◌∷◌, length, Option, Some, None, option_and_then}
 use Rattle.rhai_value.specs.declared.cells.store.Cell.{Cell}
+use Rattle.std.specs.Option.{option_map_or}
 use Rattle.rhai_value.specs.Tree.{Tree, cell_of}
 use Rattle.rhai_value.specs.Store.{at}
 
@@ -13,6 +14,10 @@ pub data Visit (A : Type 0) : Type 0 where
 abbrev pub is_open : ℕ → List ℕ → Bool
 is_open c [] = false
 is_open c (p ∷ ps) = nat_eq c p || is_open c ps
+
+-- whether a value is a holder of an open cell
+abbrev pub holds_open : List ℕ → Tree → Bool
+holds_open path t = option_map_or (λ c. is_open c path) (cell_of t) false
 
 abbrev pub visit_of : Option Tree → Bool → Visit Tree
 visit_of None b = barred

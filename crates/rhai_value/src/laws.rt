@@ -9,10 +9,11 @@ ghost use Rattle.rhai_value.specs.Copied.{SameButModes, IsWritable};
 ghost use Rattle.rhai_value.specs.Store.{at, put, added, is_marked_at, set_mark, shared_value, shared_store};
 ghost use Rattle.rhai_value.specs.End.{first, value_with_first, store_with_first, first_cell, held_cell, flat, flattened, End, held, stuck, closed, site_after, end_of, end, held_part, value_after, store_after, end_type};
 ghost use Rattle.rhai_value.specs.Locked.{is_locked};
-ghost use Rattle.rhai_value.specs.Walk.{is_open, visit, visit_map};
+ghost use Rattle.rhai_value.specs.Walk.{holds_open, is_open, visit, visit_map};
 ghost use Rattle.rhai_value.specs.Types.{is_type};
 ghost use Rattle.rhai_value.specs.Relation.{Renaming, paired, Related, RelatedContent, AllRelated, RelatedFields, RelatedFunctions, Alike, Respect, IsOneToOne, RelatedCells, RelatedPaths, RelatedEnds, shared_pairs};
 
+pub mod orders;
 pub mod parts;
 pub mod places;
 pub mod scans;
@@ -184,6 +185,13 @@ pub fn flat_is_renamed()
         → IsOneToOne r → RelatedCells r s z → Related r t u → Related r (flat s t) (flat z u) }
     ensures flattened { (r : Renaming) (s z : List Cell) (t u : Tree)
         → IsOneToOne r → RelatedCells r s z → Related r t u → Related r (flattened s t) (flattened z u) }
+{}
+
+/// With paired cells open, of two related values both hold an open cell or neither.
+#[tactic(auto, using(crate::proofs::SameWalks::same_holds_open))]
+pub fn open_cells_are_renamed()
+    ensures { (r : Renaming) (path road : List ℕ) (t u : Tree)
+        → IsOneToOne r → RelatedPaths r path road → Related r t u → holds_open path t ≡ holds_open road u }
 {}
 
 /// A write over the first content of a holder is seen through every holder of that cell, and no

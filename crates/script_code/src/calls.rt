@@ -71,6 +71,7 @@ impl<'p> Compiler<'p> {
             }
             Meaning::Sort => self.sort_first(arguments, position, to, levels, parts),
             Meaning::Call => self.call_function(arguments, position, to, levels, parts),
+            Meaning::Exit => self.exit(arguments, position, to, levels, parts),
             Meaning::Sift(_) | Meaning::Search => {
                 let first = self.values(arguments, levels, parts)?;
                 self.sift_or_search(meaning, callee, arguments, first, position, to)
@@ -173,6 +174,28 @@ impl<'p> Compiler<'p> {
         Ok(())
     }
 
+    /// Ends the whole script with the only argument, or with unit.
+    fn exit<P>(
+        &mut self,
+        arguments: &Vec<Expr>,
+        position: Position,
+        to: Slot,
+        levels: u32,
+        parts: &P,
+    ) -> Result<(), CodeError>
+    where
+        P: Fn(&mut Compiler, &Expr, Option<Slot>, u32) -> Result<(), CodeError>,
+        requires { P.IsAlwaysCallable parts.now }
+    {
+        let first = self.values(arguments, levels, parts)?;
+        if arguments.is_empty() {
+            self.take_slot()?;
+            self.emit(Op::Unit(first))?;
+        }
+        self.emit_at(Op::Exit(first), position)?;
+        self.moved(to, first)
+    }
+
     fn print<P>(
         &mut self,
         arguments: &Vec<Expr>,
@@ -273,6 +296,7 @@ impl<'p> Compiler<'p> {
             Meaning::IsVariable => Op::IsVariable(first),
             Meaning::IsFunction => Op::IsFunction(first),
             Meaning::Curry => Op::Curry(first, to_slot(count.saturating_sub(1))?),
+            Meaning::Exit => Op::Exit(first),
             Meaning::Native(_)
             | Meaning::Call
             | Meaning::Each(_)

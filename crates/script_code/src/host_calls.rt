@@ -32,6 +32,7 @@ impl<'p> Compiler<'p> {
             | Meaning::IsFunction
             | Meaning::Call
             | Meaning::Curry
+            | Meaning::Exit
             | Meaning::Each(_)
             | Meaning::Sort
             | Meaning::Sift(_)

@@ -4,8 +4,7 @@ use crate::compiler::{Compiler, to_slot};
 use crate::error::CodeError;
 use crate::operations::{Op, Slot};
 use crate::tables::number_in;
-use rhai_value::INT;
-use script_tree::{Expr, Field};
+use script_tree::{Expr, Field, INT};
 
 /// How many items of a literal are evaluated before they are moved into it.
 const ITEMS_AT_ONCE: usize = 32;

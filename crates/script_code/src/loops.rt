@@ -2,6 +2,7 @@
 
 use crate::compiler::{Compiler, Round};
 use crate::error::CodeError;
+use crate::meaning::Meaning;
 use crate::operations::{Op, Slot, Target};
 use crate::program::Place;
 use crate::variables::LoopNames;
@@ -172,8 +173,14 @@ impl<'p> Compiler<'p> {
         requires { P.IsAlwaysCallable parts.now }
     {
         let top = self.top;
-        let at = self.take_slots(2)?;
-        self.source(source, at, position, index.is_none(), levels, parts)?;
+        let stepped = self.stepped(source);
+        let at = self.take_slots(if stepped.is_some() { 3 } else { 2 })?;
+        match stepped {
+            Some((arguments, place)) => {
+                self.stepped_range(arguments, at, place, index.is_none(), levels, parts)?;
+            }
+            None => self.source(source, at, position, index.is_none(), levels, parts)?,
+        }
         self.fresh_variables(item, index)?;
         let start = self.emit(Op::Jump(0))?;
         let inside = self.here()?;
@@ -186,7 +193,12 @@ impl<'p> Compiler<'p> {
         let test = self.here()?;
         self.land_continues(test);
         self.set_target(start, test);
-        self.emit_at(Op::ForNext(given, at, inside), position)?;
+        let place = Place {
+            position,
+            flag: stepped.is_some(),
+            ..self.place()
+        };
+        self.emit_with(Op::ForNext(given, at, inside), place)?;
         self.end_round(item)?;
         self.emit(Op::Clear(at, 1))?;
         self.top = top;
@@ -236,6 +248,57 @@ impl<'p> Compiler<'p> {
             ..self.place()
         };
         self.emit_with(Op::ForBegin(at), place)?;
+        Ok(())
+    }
+
+    /// Returns the arguments and the position of a call of `range` with a start and an end, or with
+    /// a step, if a value is one.
+    fn stepped<'e>(&self, source: &'e Expr) -> Option<(&'e Vec<Expr>, Position)> {
+        let Expr::Call {
+            callee,
+            arguments,
+            position,
+        } = source
+        else {
+            return None;
+        };
+        let called = self.script.callees.get(*callee)?;
+        let is_built_in = called.function.is_none()
+            && matches!(self.meaning(*callee), Meaning::Native(_));
+        let is_range = called.name.as_str() == "range" && (2..4).contains(&arguments.len());
+        if is_built_in && is_range {
+            Some((arguments, *position))
+        } else {
+            None
+        }
+    }
+
+    /// Compiles the range that a `for` iterates over, given by the arguments of `range`.
+    fn stepped_range<P>(
+        &mut self,
+        arguments: &Vec<Expr>,
+        at: Slot,
+        position: Position,
+        may_count: bool,
+        levels: u32,
+        parts: &P,
+    ) -> Result<(), CodeError>
+    where
+        P: Fn(&mut Compiler, &Expr, Option<Slot>, u32) -> Result<(), CodeError>,
+        requires { P.IsAlwaysCallable parts.now }
+    {
+        let mut slot = at;
+        for argument in arguments {
+            parts(self, argument, Some(slot), levels)?;
+            slot = slot.saturating_add(1);
+        }
+        let place = Place {
+            position,
+            flag: arguments.len() > 2,
+            moves: may_count,
+            ..self.place()
+        };
+        self.emit_with(Op::ForSteps(at), place)?;
         Ok(())
     }
 

@@ -70,6 +70,8 @@ pub enum Meaning {
     Call,
     /// Curries values in a function pointer.
     Curry,
+    /// Ends the whole script with a value.
+    Exit,
     /// Calls a function pointer for each item.
     Each(EachKind),
     /// Sorts by a function pointer.
@@ -98,6 +100,9 @@ pub fn meaning_of(name: &str, arguments: usize, host: &[HostName]) -> Meaning
                 return Meaning::Host(number);
             }
         }
+    }
+    if name == "exit" && arguments <= 1 {
+        return Meaning::Exit;
     }
     if arguments == 0 {
         return Meaning::Native(native_of(name, usize::MAX));

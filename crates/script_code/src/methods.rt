@@ -55,7 +55,8 @@ impl<'p> Compiler<'p> {
                 | Meaning::Debug
                 | Meaning::IsVariable
                 | Meaning::IsFunction
-                | Meaning::Curry,
+                | Meaning::Curry
+                | Meaning::Exit,
             ) => {
                 let path = self.copied_path(method)?;
                 self.read(at, path, method.receiver)?;
@@ -201,6 +202,7 @@ impl<'p> Compiler<'p> {
             | Meaning::IsVariable
             | Meaning::IsFunction
             | Meaning::Curry
+            | Meaning::Exit
             | Meaning::Native(_) => {
                 let path = self.copied_path(method)?;
                 self.read(Root::Variable(root, variable), path, first)?;
@@ -271,6 +273,7 @@ impl<'p> Compiler<'p> {
             | Meaning::IsVariable
             | Meaning::IsFunction
             | Meaning::Curry
+            | Meaning::Exit
             | Meaning::Native(_) => {
                 let count = method.arguments.saturating_add(1);
                 self.call_values(meaning, method.callee, first, count, method.position)?;

@@ -106,7 +106,8 @@ impl<'p> Watched<'p> {
             | Meaning::IsShared
             | Meaning::IsVariable
             | Meaning::IsFunction
-            | Meaning::Curry => true,
+            | Meaning::Curry
+            | Meaning::Exit => true,
             Meaning::Native(native) => !is_first || !native.may_change(),
             Meaning::Call | Meaning::Each(_) | Meaning::Search => self.is_plain,
             Meaning::Host(number) => self.is_plain

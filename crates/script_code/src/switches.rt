@@ -7,8 +7,7 @@ use crate::operations::{Op, Slot};
 use crate::program::Place;
 use crate::tables::to_number;
 use rhai_text::{Position, Token};
-use rhai_value::INT;
-use script_tree::{Case, Expr, Pattern, Switch};
+use script_tree::{Case, Expr, INT, Pattern, Switch};
 
 /// The operands of a `switch`'s tests.
 #[derive(Clone, Copy)]

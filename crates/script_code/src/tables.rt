@@ -7,8 +7,8 @@ use crate::meaning::{HostName, Meaning, meaning_of};
 use crate::operations::Slot;
 use crate::program::{Callee, NO_STEPS, Path, PathStep, Program, Shape};
 use rhai_text::Position;
-use rhai_value::INT;
 use script_natives::{Native, native_of};
+use script_tree::INT;
 use std::alloc::Global;
 use std::collections::BTreeMap;
 

@@ -4,13 +4,17 @@
 use crate::snapshot::{CELL, LABEL};
 use rhai_text::ImmutableString;
 use rhai_value::{
-    AccessMode, Array, Dynamic, ExclusiveRange, FnPtr, Host, INT, InclusiveRange, Map, Store, Tag,
+    AccessMode, Array, Dynamic, ExclusiveRange, FnPtr, Host, INT, InclusiveRange, Map, Part, Store,
+    Tag,
 };
 use std::alloc::{AllocError, AllocFailed, Global};
 use std::{mem, str};
 
 /// The kind of an int.
 const INT_KIND: u8 = 4;
+
+/// The kind of an array.
+const ARRAY_KIND: u8 = 5;
 
 /// How many bytes an int has, with its kind.
 const INT_SIZE: usize = 9;
@@ -196,6 +200,19 @@ pub fn read_value(alloc: Global, bytes: &[u8]) -> Result<Dynamic, Unread> {
     }
 }
 
+/// Reads an array from its hash bytes, as `read_value` does.
+/// Errors: the bytes are not those of one array; an allocation fails.
+pub fn read_array(alloc: Global, bytes: &[u8]) -> Result<Array, Unread> {
+    if let Some(numbers) = read_int_array(alloc, bytes)? {
+        return Ok(numbers);
+    }
+    let mut value = read_value(alloc, bytes)?;
+    match Array::own_mut(&mut value) {
+        Some(items) => Ok(mem::replace(items, Vec::new(alloc))),
+        None => Err(Unread::Form),
+    }
+}
+
 /// Returns the int with these hash bytes, if they are an int's: the most frequent value.
 fn int_in(bytes: &[u8]) -> Option<INT> {
     let (kind, number) = bytes.split_first()?;
@@ -206,6 +223,40 @@ fn int_in(bytes: &[u8]) -> Option<INT> {
         Ok(number) => Some(INT::from_le_bytes(number)),
         Err(_) => None,
     }
+}
+
+/// Reads an array of ints, if the bytes are one: the most frequent arguments of functions.
+fn read_int_array(alloc: Global, bytes: &[u8]) -> Result<Option<Array>, Unread> {
+    let mut bytes = Bytes { rest: bytes };
+    let (Ok(ARRAY_KIND), Ok(count)) = (bytes.byte(), bytes.count()) else {
+        return Ok(None);
+    };
+    let mut numbers = Vec::new(alloc);
+    if bytes.rest.len() / INT_SIZE != count {
+        return Ok(None);
+    }
+    numbers.reserve(count)?;
+    take_ints(&mut bytes, count, &mut numbers)?;
+    if numbers.len() == count && bytes.rest.is_empty() {
+        Ok(Some(numbers))
+    } else {
+        Ok(None)
+    }
+}
+
+/// Reads ints at the front, at most this many.
+fn take_ints(bytes: &mut Bytes, most: usize, numbers: &mut Vec<Dynamic>) -> Result<(), Unread> {
+    for _ in 0..most {
+        let Some((front, rest)) = bytes.rest.split_at_checked(INT_SIZE) else {
+            break;
+        };
+        let Some(number) = int_in(front) else {
+            break;
+        };
+        numbers.push(Dynamic::from_int(number))?;
+        bytes.rest = rest;
+    }
+    Ok(())
 }
 
 /// Reads the value at the front.
@@ -293,16 +344,8 @@ fn read_ints(
         return Ok(false);
     };
     let before = values.len();
-    for _ in before.saturating_sub(*first)..*count {
-        let Some((front, rest)) = bytes.rest.split_at_checked(INT_SIZE) else {
-            break;
-        };
-        let Some(number) = int_in(front) else {
-            break;
-        };
-        values.push(Dynamic::from_int(number))?;
-        bytes.rest = rest;
-    }
+    let left = count.saturating_sub(before.saturating_sub(*first));
+    take_ints(bytes, left, values)?;
     Ok(values.len() > before)
 }
 
@@ -389,7 +432,7 @@ fn read_label(bytes: &mut Bytes, cells: &Cells) -> Result<Label, Unread> {
 fn read_head(alloc: Global, bytes: &mut Bytes, cells: &mut Cells) -> Result<Head, Unread> {
     let label = read_label(bytes, cells)?;
     let value = match bytes.byte()? {
-        5 => return Ok(Head::Open(Kind::Array, label, bytes.count()?)),
+        ARRAY_KIND => return Ok(Head::Open(Kind::Array, label, bytes.count()?)),
         7 => return Ok(Head::Open(Kind::Map(Vec::new(alloc)), label, bytes.count()?)),
         8 => {
             let name = ImmutableString::from_str(alloc, bytes.text()?)?;

@@ -9,5 +9,5 @@ mod restore;
 mod snapshot;
 
 pub use engine::{Engine, Step};
-pub use flat::{Unread, read_value};
+pub use flat::{Unread, read_array, read_value};
 pub use snapshot::Snapshot;

@@ -4,7 +4,7 @@
 use crate::engine::Engine;
 use rhai_show::hashed;
 use rhai_text::Position;
-use rhai_value::{AccessMode, Dynamic, Entries, Path, Store, Tag, Union};
+use rhai_value::{AccessMode, Dynamic, Entries, Path, Store, Tag, Union, WriteToken};
 use script_code::Program;
 use script_run::{Run, Scope};
 use std::alloc::{AllocError, Global};
@@ -27,12 +27,21 @@ pub(crate) const END: u8 = 0;
 /// The cells that were reached, in their order.
 #[derive(Drop)]
 struct Cells<'s> {
-    /// A holder of each.
-    holders: Vec<&'s Dynamic>,
+    /// The content of each.
+    contents: Vec<&'s Dynamic>,
     /// All are open here.
     all: Path,
     /// In the path of each bit those are open in whose numbers it is set.
     bits: Vec<Path>,
+}
+
+/// How a cell is opened.
+#[derive(Clone, Copy)]
+enum Key<'k> {
+    /// By a holder.
+    Holder(&'k Store, &'k Dynamic),
+    /// By its mark.
+    Mark(&'k WriteToken),
 }
 
 /// What is left of the values inside of one.
@@ -67,21 +76,23 @@ impl<'s> Rest<'s> {
     }
 }
 
-/// Whether a cell is open in a path, which stays.
-fn is_open(path: &mut Path, store: &Store, holder: &Dynamic) -> Result<bool, AllocError> {
-    match path.enter(store, holder)? {
-        Some(_) => {
-            path.leave();
-            Ok(false)
+/// Opens a cell in a path.
+fn open_in(path: &mut Path, key: Key) -> Result<(), AllocError> {
+    match key {
+        Key::Holder(store, holder) => {
+            let _content = path.enter(store, holder)?;
         }
-        None => Ok(true),
+        Key::Mark(token) => {
+            let _is_new = path.open_marked(token)?;
+        }
     }
+    Ok(())
 }
 
 impl<'s> Cells<'s> {
     fn new(alloc: Global) -> Cells<'s> {
         Cells {
-            holders: Vec::new(alloc),
+            contents: Vec::new(alloc),
             all: Path::new(alloc),
             bits: Vec::new(alloc),
         }
@@ -91,44 +102,50 @@ impl<'s> Cells<'s> {
     fn number(
         &mut self,
         alloc: Global,
-        store: &Store,
-        holder: &'s Dynamic,
+        store: &'s Store,
+        holder: &Dynamic,
     ) -> Result<Option<usize>, AllocError> {
-        if Path::new(alloc).enter(store, holder)?.is_none() {
+        if self.all.has_open(holder) {
+            return Ok(Some(self.known(holder)));
+        }
+        let Some(content) = self.all.enter(store, holder)? else {
             return Ok(None);
-        }
-        if self.all.enter(store, holder)?.is_none() {
-            return Ok(Some(self.known(store, holder)?));
-        }
-        let number = self.holders.len();
-        self.note_bits(alloc, store, holder, number)?;
-        self.holders.push(holder)?;
+        };
+        let number = self.contents.len();
+        self.note_bits(alloc, Key::Holder(store, holder), number)?;
+        self.contents.push(content)?;
         Ok(Some(number))
     }
 
+    /// Gives a marked cell the next number.
+    fn note_mark(
+        &mut self,
+        alloc: Global,
+        token: &WriteToken,
+        content: &'s Dynamic,
+    ) -> Result<(), AllocError> {
+        let number = self.contents.len();
+        let _is_new = self.all.open_marked(token)?;
+        self.note_bits(alloc, Key::Mark(token), number)?;
+        self.contents.push(content)?;
+        Ok(())
+    }
+
     /// The number of a cell that has one.
-    fn known(&mut self, store: &Store, holder: &Dynamic) -> Result<usize, AllocError> {
+    fn known(&self, holder: &Dynamic) -> usize {
         let mut number = 0usize;
         let mut worth = 1usize;
-        for bit in 0..self.bits.len() {
-            if let Some(path) = self.bits.get_mut(bit) {
-                if is_open(path, store, holder)? {
-                    number = number.saturating_add(worth);
-                }
+        for path in self.bits.iter() {
+            if path.has_open(holder) {
+                number = number.saturating_add(worth);
             }
             worth = worth.saturating_mul(2);
         }
-        Ok(number)
+        number
     }
 
     /// Opens a new cell in the paths of the bits of its number.
-    fn note_bits(
-        &mut self,
-        alloc: Global,
-        store: &Store,
-        holder: &Dynamic,
-        number: usize,
-    ) -> Result<(), AllocError> {
+    fn note_bits(&mut self, alloc: Global, key: Key, number: usize) -> Result<(), AllocError> {
         let mut left = number;
         for bit in 0..usize::BITS as usize {
             if left == 0 {
@@ -139,7 +156,7 @@ impl<'s> Cells<'s> {
             }
             if left % 2 == 1 {
                 if let Some(path) = self.bits.get_mut(bit) {
-                    let _content = path.enter(store, holder)?;
+                    open_in(path, key)?;
                 }
             }
             left /= 2;
@@ -268,14 +285,11 @@ fn add_contents<'s>(
     store: &'s Store,
 ) -> Result<(), AllocError> {
     for number in 0..usize::MAX {
-        let Some(holder) = cells.holders.get(number) else {
+        let Some(content) = cells.contents.get(number) else {
             break;
         };
-        let holder: &'s Dynamic = *holder;
-        match Path::new(alloc).enter(store, holder)? {
-            Some(content) => add_value(alloc, out, cells, store, content)?,
-            None => out.push(CLOSED)?,
-        }
+        let content: &'s Dynamic = *content;
+        add_value(alloc, out, cells, store, content)?;
     }
     Ok(())
 }
@@ -359,6 +373,14 @@ impl<'s> Snapshot<'s> {
         })
     }
 
+    /// Adds the byte 1 for an open mark. Its cell, with this content, has the next number; add all
+    /// marks before any value.
+    /// Errors: an allocation fails.
+    pub fn add_mark(&mut self, token: &WriteToken, content: &'s Dynamic) -> Result<(), AllocError> {
+        self.out.push(MORE)?;
+        self.cells.note_mark(self.alloc, token, content)
+    }
+
     /// Adds the byte 1, and a value.
     /// Errors: an allocation fails.
     pub fn add(&mut self, value: &'s Dynamic) -> Result<(), AllocError> {
@@ -421,7 +443,7 @@ impl Engine {
     /// then 1 for a constant or 0, and the tag in four bytes.
     /// Errors: an allocation fails.
     /// Cost: the number of values, and for each holder the square of the logarithm of the number
-    /// of cells; memory for the bytes and for each cell.
+    /// of cells; memory for the bytes, and for each cell.
     pub fn snapshot(&self) -> Result<Vec<u8>, AllocError> {
         let alloc = self.alloc;
         let mut out = Vec::new(alloc);

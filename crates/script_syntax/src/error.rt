@@ -40,6 +40,9 @@ pub enum SyntaxFault {
     /// The sign has no meaning here, but has one in rhai.
     #[error("`{0}` is not part of this language")]
     ReservedSign(ReservedSign),
+    /// `f!(..)`, which calls a function with the variables of its caller.
+    #[error("`!(` behind a function is not part of this language")]
+    CallerVariables,
     /// No sign begins with this character.
     #[error("this character begins nothing")]
     StrangeCharacter,
@@ -49,6 +52,9 @@ pub enum SyntaxFault {
     /// The number is out of the range of ints.
     #[error("the number is too large")]
     NumberTooLarge,
+    /// The number has a fraction or an exponent.
+    #[error("floats are not part of this language")]
+    Float,
     /// The digits are followed by something that doesn't belong to an int.
     #[error("this is no int")]
     BadNumber,

@@ -5,7 +5,7 @@ use crate::error::{SyntaxError, SyntaxFault};
 use crate::literals::{quoted, raw_text, read_char, read_int, template};
 use crate::symbol::{ReservedSign, SIGNS, Symbol, keyword};
 use rhai_text::Position;
-use rhai_value::INT;
+use script_tree::INT;
 use std::alloc::Global;
 
 /// A lexeme of a script.

@@ -6,11 +6,11 @@ use crate::cursor::Cursor;
 use crate::error::{SyntaxError, SyntaxFault};
 use crate::lexeme::Lexeme;
 use rhai_text::Position;
-use rhai_value::INT;
+use script_tree::INT;
 use std::alloc::Global;
 
 /// Reads an int in decimal digits, or its bits after `0x`, `0o` or `0b`.
-/// Errors: `NumberTooLarge` and `BadNumber`, at its beginning.
+/// Errors: `NumberTooLarge`, `Float` and `BadNumber`, at its beginning.
 /// Cost: its length.
 pub fn read_int(cursor: &mut Cursor) -> Result<INT, SyntaxError> {
     let start = cursor.position();
@@ -58,6 +58,9 @@ fn read_digits(cursor: &mut Cursor, start: Position, radix: u32) -> Result<u64, 
         }
         cursor.advance();
     }
+    if has_digit && radix == 10 && is_float(cursor) {
+        return Err(SyntaxError::Fault(SyntaxFault::Float, start));
+    }
     if !has_digit || goes_on(cursor) {
         return Err(SyntaxError::Fault(SyntaxFault::BadNumber, start));
     }
@@ -69,6 +72,15 @@ fn with_digit(number: u64, radix: u32, digit: u32) -> Option<u64> {
     number
         .checked_mul(u64::from(radix))?
         .checked_add(u64::from(digit))
+}
+
+/// Whether decimal digits are followed by a fraction or an exponent.
+fn is_float(cursor: &Cursor) -> bool {
+    match (cursor.peek(), cursor.peek_second()) {
+        (Some('.'), Some(c)) => c.is_ascii_digit(),
+        (Some('e' | 'E'), Some(c)) => c.is_ascii_digit() || c == '+' || c == '-',
+        (Some(_), _) | (None, _) => false,
+    }
 }
 
 /// Whether the digits are followed by a letter, another digit or a fraction.

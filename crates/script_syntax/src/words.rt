@@ -4,13 +4,12 @@ use crate::error::SyntaxFault;
 use std::fmt;
 
 /// How many of `RESERVED`, the first, name what rhai has and this language doesn't.
-const NOT_READ: usize = 6;
+const NOT_READ: usize = 5;
 
 /// The reserved words other than keywords.
-static RESERVED: [&str; 42] = [
+static RESERVED: [&str; 41] = [
     "as",
     "eval",
-    "exit",
     "export",
     "import",
     "private",

@@ -8,5 +8,9 @@ pub use tree::{
     Program, Slot, Step, Switch, Term, UnaryOperator, Variable,
 };
 
+/// The ints of scripts: those of values, here by another name, so that trees, parser and compiler
+/// need no values.
+pub type INT = i64;
+
 /// The most levels of a tree, from a body down to a leaf.
 pub const MOST_LEVELS: usize = 64;

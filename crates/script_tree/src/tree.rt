@@ -1,7 +1,7 @@
 //! Scripts as trees.
 
+use crate::INT;
 use rhai_text::{ImmutableString, Position, Token};
-use rhai_value::INT;
 
 /// A whole script.
 ///

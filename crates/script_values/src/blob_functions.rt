@@ -1,6 +1,6 @@
 //! Functions on blobs.
 
-use crate::argument_values::{Arguments, blob, count, int};
+use crate::argument_values::{Arguments, blob, count, int, text_or_character};
 use crate::blob_bytes::{int_in, put_int_in, put_text_in};
 use crate::bounds::{bounds_of, span_of};
 use crate::faults::{FaultKind, check_size};
@@ -36,10 +36,9 @@ fn blob_answer(
     let first = &arguments.first;
     match question {
         BlobQuestion::Len => Ok(count(blobs::len(bytes))),
-        BlobQuestion::IsEmpty => Ok(Dynamic::from_bool(bytes.is_empty())),
+        BlobQuestion::IsEmpty => Ok(Dynamic::from_bool(blobs::is_empty(bytes))),
         BlobQuestion::Contains => {
-            let byte = int(first, store)?.rem_euclid(256);
-            Ok(Dynamic::from_bool(has_byte(bytes, byte)))
+            Ok(Dynamic::from_bool(blobs::contains(bytes, int(first, store)?)))
         }
         BlobQuestion::Get => Ok(byte_or_unit(blobs::get(bytes, int(first, store)?))),
         BlobQuestion::Extract => match bounds_of(first, store) {
@@ -68,26 +67,32 @@ fn blob_answer(
     }
 }
 
-/// Whether a blob contains a byte.
-fn has_byte(bytes: &Blob, wanted: INT) -> bool {
-    for byte in bytes.iter() {
-        if INT::from(*byte) == wanted {
-            return true;
-        }
-    }
-    false
-}
-
 /// Returns the text of a blob, with the replacement character for bytes that are not UTF-8.
 fn as_string(means: &Means, bytes: &Blob) -> Result<Dynamic, FaultKind> {
-    let text = String::from_utf8_lossy(means.alloc, bytes.as_slice())?;
+    let text = blobs::as_string(means.alloc, bytes)?;
     check_size(means.limits.text, text.len(), SizeKind::Text)?;
-    Ok(Dynamic::from_text(means.alloc, text.as_str())?)
+    Ok(Dynamic::from(text))
 }
 
 fn extracted(means: &Means, bytes: &Blob, start: INT, length: INT) -> Result<Dynamic, FaultKind> {
     let part = blobs::extract(means.alloc, bytes, start, length)?;
     Ok(Dynamic::from_blob(part))
+}
+
+/// Appends the bytes of a blob, a text or a character.
+fn append(
+    means: &Means,
+    store: &Store,
+    bytes: &mut Blob,
+    more: &mut Dynamic,
+) -> Result<(), FaultKind> {
+    let mut buffer = [0; 4];
+    let more = match text_or_character(more, store, &mut buffer) {
+        Ok(text) => text.as_bytes(),
+        Err(_) => blob(more, store)?,
+    };
+    blobs::append(bytes, &means.limits, more)?;
+    Ok(())
 }
 
 /// Returns a byte as a value, or unit if there is none.
@@ -113,11 +118,11 @@ pub(crate) fn change_blob(
             blobs::set(bytes, int(first, store)?, int(&arguments.second, store)?);
         }
         BlobChange::Push => blobs::push(bytes, limits, int(first, store)?)?,
-        BlobChange::Append => blobs::append(bytes, limits, blob(first, store)?)?,
+        BlobChange::Append => append(means, store, bytes, first)?,
         BlobChange::Pop => return Ok(byte_or_unit(blobs::pop(bytes))),
         BlobChange::Remove => return Ok(byte_or_unit(blobs::remove(bytes, int(first, store)?))),
         BlobChange::Reverse => blobs::reverse(bytes),
-        BlobChange::Clear => bytes.clear(),
+        BlobChange::Clear => blobs::clear(bytes),
         BlobChange::WriteInt(order) => put_int_in(bytes, arguments, order, store)?,
         BlobChange::WriteText => put_text_in(bytes, arguments, false, store)?,
         BlobChange::WriteAscii => put_text_in(bytes, arguments, true, store)?,

@@ -2,6 +2,7 @@
 ghost use Rattle.std.specs.Prelude.{◌<◌, ◌≤◌};
 
 use crate::faults::FaultKind;
+use rhai_packs::bits;
 use rhai_target::Slice;
 use rhai_value::{Dynamic, ExclusiveRange, INT, InclusiveRange, Store};
 
@@ -11,17 +12,6 @@ pub(crate) struct Bounds {
     pub(crate) start: INT,
     pub(crate) end: INT,
     pub(crate) is_inclusive: bool,
-}
-
-impl Bounds {
-    /// Whether the range goes as far as a number that isn't below its start.
-    pub(crate) fn reaches(&self, number: INT) -> bool {
-        if self.is_inclusive {
-            number <= self.end
-        } else {
-            number < self.end
-        }
-    }
 }
 
 /// Returns the ends of a range, if the value is one.
@@ -145,14 +135,9 @@ fn mask_of(start: u64, end: u64) -> Bits
     requires start { start < 64 }
     requires end { end ≤ 64 }
 {
-    let shift = start as u8;
-    if end <= start {
-        return Bits { mask: 0, shift };
-    }
-    let left_out = 64 - (end - start);
-    let ones = u64::MAX >> left_out;
+    let count = end.saturating_sub(start);
     Bits {
-        mask: (ones << start).cast_signed(),
-        shift,
+        mask: bits::mask(start as usize, count as usize),
+        shift: start as u8,
     }
 }

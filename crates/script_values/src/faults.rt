@@ -42,6 +42,8 @@ pub enum FaultKind {
     NoNumber,
     /// The radix is below 2 or above 36.
     NoRadix,
+    /// The step of a range is 0.
+    NoStep,
     /// The script threw this value.
     Thrown(Dynamic),
     /// The script took more operations than its limit.
@@ -88,6 +90,7 @@ impl FaultKind {
             | FaultKind::Constant
             | FaultKind::NoNumber
             | FaultKind::NoRadix
+            | FaultKind::NoStep
             | FaultKind::Thrown(_) => true,
             FaultKind::TooManyOperations
             | FaultKind::TooManyEntries
@@ -133,6 +136,7 @@ impl FaultKind {
             FaultKind::Constant => String::from_str(alloc, "a constant can't be changed"),
             FaultKind::NoNumber => String::from_str(alloc, "the text is no number"),
             FaultKind::NoRadix => String::from_str(alloc, "a radix is from 2 to 36"),
+            FaultKind::NoStep => String::from_str(alloc, "step value cannot be zero"),
             FaultKind::TooManyOperations => String::from_str(alloc, "too many operations"),
             FaultKind::TooManyEntries => String::from_str(alloc, "too large: Entries"),
             FaultKind::TooMuchOutput => String::from_str(alloc, "too much output"),

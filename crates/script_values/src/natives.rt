@@ -92,7 +92,7 @@ pub(crate) fn ask_held(
         Union::Str(_, _, text) => ask_text(native.text, means, store, text, arguments),
         Union::Blob(_, _, bytes) => ask_blob(native.blob, means, store, bytes, arguments),
         Union::Int(_, _, number) => ask_int(native.int, means, store, *number, arguments),
-        Union::Char(_, _, character) => ask_char(native.character, means, *character),
+        Union::Char(_, _, character) => Ok(ask_char(native.character, *character)),
         Union::Variant(_, _, _) => ask_range(native.range, store, held, arguments),
         Union::FnPtr(_, _, pointer) => ask_pointer(native.pointer, means, pointer),
         Union::Unit(_, _, _) | Union::Bool(_, _, _) | Union::Shared(_, _, _) => Ok(None),
@@ -146,7 +146,7 @@ pub fn change_native(
             let Some(CharFunction::Change(change)) = native.character else {
                 return Ok(None);
             };
-            Ok(Some(change_char(change, means, character)?))
+            Ok(Some(change_char(change, character)))
         }
         Union::Unit(_, _, _)
         | Union::Bool(_, _, _)

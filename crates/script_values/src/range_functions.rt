@@ -4,7 +4,8 @@ use crate::argument_values::{Arguments, int};
 use crate::bounds::bounds_of;
 use crate::faults::FaultKind;
 use crate::resources::Means;
-use rhai_value::{Dynamic, FnPtr, Store};
+use rhai_packs::ranges;
+use rhai_value::{Dynamic, ExclusiveRange, FnPtr, INT, InclusiveRange, Store};
 use script_natives::{PointerFunction, RangeFunction};
 
 /// The prefix of an anonymous function's name.
@@ -25,13 +26,34 @@ pub(crate) fn ask_range(
         RangeFunction::End => Dynamic::from_int(bounds.end),
         RangeFunction::IsInclusive => Dynamic::from_bool(bounds.is_inclusive),
         RangeFunction::IsExclusive => Dynamic::from_bool(!bounds.is_inclusive),
-        RangeFunction::IsEmpty => Dynamic::from_bool(!bounds.reaches(bounds.start)),
+        RangeFunction::IsEmpty => Dynamic::from_bool(is_empty(value, store)),
         RangeFunction::Contains => {
-            let number = int(&arguments.first, store)?;
-            Dynamic::from_bool(bounds.start <= number && bounds.reaches(number))
+            Dynamic::from_bool(contains(value, int(&arguments.first, store)?, store))
         }
     };
     Ok(Some(answer))
+}
+
+/// Whether a range contains no int.
+fn is_empty(value: &Dynamic, store: &Store) -> bool {
+    if let Ok(range) = value.as_part::<ExclusiveRange>(store) {
+        return ranges::is_empty(range);
+    }
+    match value.as_part::<InclusiveRange>(store) {
+        Ok(range) => ranges::is_empty_with_end(range),
+        Err(_) => false,
+    }
+}
+
+/// Whether a range contains an int.
+fn contains(value: &Dynamic, number: INT, store: &Store) -> bool {
+    if let Ok(range) = value.as_part::<ExclusiveRange>(store) {
+        return ranges::contains(range, number);
+    }
+    match value.as_part::<InclusiveRange>(store) {
+        Ok(range) => ranges::contains_with_end(range, number),
+        Err(_) => false,
+    }
 }
 
 /// Calls a function on a function pointer, if there is one.

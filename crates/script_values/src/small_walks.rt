@@ -4,7 +4,7 @@ use crate::argument_values::Arguments;
 use crate::blob_bytes::bytes_meant;
 use crate::cost::{bytes_cost, values_cost};
 use crate::walks::{Counting, span_between, span_from};
-use rhai_value::{Blob, FnPtr, INT};
+use rhai_value::{Blob, Dynamic, FnPtr, INT};
 use script_natives::{
     BlobChange, BlobFunction, BlobQuestion, CharChange, CharFunction, CharQuestion, IntChange,
     IntFunction, IntQuestion, PointerFunction,
@@ -96,16 +96,24 @@ fn blob_change_cost(
     match change {
         BlobChange::Set | BlobChange::Push | BlobChange::Pop | BlobChange::Clear => 0,
         BlobChange::WriteInt(_) => 2,
-        BlobChange::Append => match arguments.first.as_blob_ref(store) {
-            Ok(more) => bytes_cost(more.len()),
-            Err(_) => 0,
-        },
+        BlobChange::Append => bytes_cost(appended(counting, &arguments.first)),
         BlobChange::Remove | BlobChange::Reverse => bytes_cost(own),
         // a text that isn't ASCII may need a longer walk than the bytes written
         BlobChange::WriteText => values_cost(bytes_meant(own, arguments, store)),
         BlobChange::WriteAscii => values_cost(bytes_meant(own, arguments, store)).saturating_add(
             written_cost(counting, arguments),
         ),
+    }
+}
+
+/// Returns how many bytes a blob or a text has that is appended.
+fn appended(counting: &Counting<'_>, argument: &Dynamic) -> usize {
+    if let Ok(bytes) = argument.as_blob_ref(counting.store) {
+        return bytes.len();
+    }
+    match argument.as_immutable_string_ref(counting.store) {
+        Ok(text) => text.len(),
+        Err(_) => 0,
     }
 }
 

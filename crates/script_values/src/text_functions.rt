@@ -3,12 +3,12 @@
 use crate::argument_values::{Arguments, count, int, place_or_none, text, text_or_character};
 use crate::faults::{FaultKind, check_size};
 use crate::resources::Means;
-use crate::text_parts::{place_from, sub_string, sub_string_from};
+use crate::text_parts::{sub_string, sub_string_from};
 use crate::text_splits::{split, split_at_most, split_back, split_back_at_most, split_words};
 use rhai_packs::ints::ParseRadixError;
 use rhai_packs::{ints, texts};
 use rhai_text::{ImmutableString, SizeKind};
-use rhai_value::{Blob, Dynamic, FnPtr, INT, Store};
+use rhai_value::{Dynamic, FnPtr, INT, Store};
 use script_natives::{TextFunction, TextQuestion};
 
 /// Calls a function that doesn't change a text, if it is one.
@@ -39,7 +39,7 @@ fn text_answer(
     match question {
         TextQuestion::Len => Ok(count(texts::len(held))),
         TextQuestion::IsEmpty => Ok(Dynamic::from_bool(texts::is_empty(held))),
-        TextQuestion::Bytes => Ok(count(held.len())),
+        TextQuestion::Bytes => Ok(count(texts::bytes(held))),
         TextQuestion::Contains => has_part(store, held, first),
         TextQuestion::StartsWith => {
             Ok(Dynamic::from_bool(texts::starts_with(held, text(first, store)?)))
@@ -71,7 +71,9 @@ fn text_answer(
             check_size(means.limits.items, held.char_count(), SizeKind::Items)?;
             Ok(Dynamic::from_array(texts::chars(means.alloc, held)?))
         }
-        TextQuestion::ToBlob => to_blob(means, held),
+        TextQuestion::ToBlob => {
+            Ok(Dynamic::from_blob(texts::to_blob(means.alloc, &means.limits, held)?))
+        }
         TextQuestion::Function => {
             let name = held.copy(means.alloc)?;
             Ok(Dynamic::from(FnPtr::new(name, Vec::new(means.alloc))))
@@ -107,16 +109,8 @@ fn place_of_part_from(
 ) -> Result<Dynamic, FaultKind> {
     let mut buffer = [0; 4];
     let part = text_or_character(part, store, &mut buffer)?;
-    Ok(place_or_none(place_from(means, held, part, int(start, store)?)?))
-}
-
-/// Returns the bytes of a text.
-fn to_blob(means: &Means, held: &ImmutableString) -> Result<Dynamic, FaultKind> {
-    check_size(means.limits.items, held.len(), SizeKind::Items)?;
-    let mut bytes: Blob = Vec::new(means.alloc);
-    bytes.reserve(held.len())?;
-    bytes.extend_from_slice(held.as_str().as_bytes())?;
-    Ok(Dynamic::from_blob(bytes))
+    let start = int(start, store)?;
+    Ok(place_or_none(texts::index_of_from(means.alloc, held, part, start)?))
 }
 
 fn parse_int(held: &ImmutableString, radix: INT) -> Result<Dynamic, FaultKind> {

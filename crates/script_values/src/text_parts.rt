@@ -40,36 +40,6 @@ fn part_from(from: &Dynamic, store: &Store) -> Result<(INT, INT), FaultKind> {
     }
 }
 
-/// Returns the index of a part in a text, searched from an index on and counted from the beginning
-/// of the text.
-pub(crate) fn place_from(
-    means: &Means,
-    held: &ImmutableString,
-    part: &str,
-    index: INT,
-) -> Result<Option<usize>, FaultKind> {
-    let length = held.char_count();
-    let distance = usize::try_from(index.unsigned_abs()).unwrap_or(usize::MAX);
-    let start = if index < 0 {
-        length.saturating_sub(distance)
-    } else {
-        distance
-    };
-    if start >= length {
-        return Ok(None);
-    }
-    let rest = sub_string(
-        means,
-        held,
-        INT::try_from(start).unwrap_or(INT::MAX),
-        INT::MAX,
-    )?;
-    match texts::index_of(&rest, part) {
-        Some(place) => Ok(Some(start.saturating_add(place))),
-        None => Ok(None),
-    }
-}
-
 /// Changes a text.
 pub(crate) fn change_text(
     change: TextChange,
@@ -91,25 +61,44 @@ pub(crate) fn change_text(
         }
         TextChange::Truncate => texts::truncate(alloc, held, int(first, store)?)?,
         TextChange::Trim => texts::trim(alloc, held)?,
-        TextChange::Replace => {
-            let mut buffer = [0; 4];
-            let mut other_buffer = [0; 4];
-            let part = text_or_character(first, store, &mut buffer)?;
-            let with = text_or_character(second, store, &mut other_buffer)?;
-            check_replaced(means, held, part, with)?;
-            texts::replace(alloc, &means.limits, held, part, with)?;
-        }
+        TextChange::Replace => replace(means, store, held, first, second)?,
         TextChange::Pad => pad(means, store, held, int(first, store)?, second)?,
-        TextChange::Remove => {
-            let mut buffer = [0; 4];
-            let part = text_or_character(first, store, &mut buffer)?;
-            texts::replace(alloc, &means.limits, held, part, "")?;
-        }
+        TextChange::Remove => remove(means, store, held, first)?,
         TextChange::Clear => *held = ImmutableString::from_str(alloc, "")?,
         TextChange::MakeUpper => *held = texts::to_upper(alloc, &means.limits, held)?,
         TextChange::MakeLower => *held = texts::to_lower(alloc, &means.limits, held)?,
     }
     Ok(Dynamic::UNIT)
+}
+
+/// Replaces each occurrence of a part.
+fn replace(
+    means: &Means,
+    store: &Store,
+    held: &mut ImmutableString,
+    part: &Dynamic,
+    with: &Dynamic,
+) -> Result<(), FaultKind> {
+    let mut buffer = [0; 4];
+    let mut other_buffer = [0; 4];
+    let part = text_or_character(part, store, &mut buffer)?;
+    let with = text_or_character(with, store, &mut other_buffer)?;
+    check_replaced(means, held, part, with)?;
+    texts::replace(means.alloc, &means.limits, held, part, with)?;
+    Ok(())
+}
+
+/// Removes each occurrence of a part.
+fn remove(
+    means: &Means,
+    store: &Store,
+    held: &mut ImmutableString,
+    part: &Dynamic,
+) -> Result<(), FaultKind> {
+    let mut buffer = [0; 4];
+    let part = text_or_character(part, store, &mut buffer)?;
+    texts::remove(means.alloc, held, part)?;
+    Ok(())
 }
 
 /// Fails if replacing each occurrence of a part would make a text too long, and longer than before.

@@ -6,7 +6,7 @@ use std::alloc::{AllocError, Global};
 
 /// Finds the cells that the value itself refers to.
 fn met(alloc: Global, store: &Store, value: &mut Dynamic) -> Result<Reach, AllocError>
-    ensures { IfOk result (λ reach. length reach ≡ length store.now) }
+    ensures { IfOk result (λ reach. length reach.0 ≡ length store.now) }
 {
     let mut reach = Reach::new(alloc, store)?;
     reach.mark_reachable(value);

@@ -6,6 +6,7 @@ mod faults;
 pub(crate) mod inputs;
 mod journals;
 mod machine;
+mod normalized;
 mod printed;
 
 use crate::Tally;
@@ -45,6 +46,12 @@ pub(crate) fn try_calls(rt: &(impl Print + AllocGlobal), tally: &mut Tally) -> i
         rt,
         "a long chain is kept and given back",
         collected::a_long_chain_is_kept_and_given_back(rt.alloc()),
+        tally,
+    )?;
+    tell(
+        rt,
+        "worlds made in two orders are alike in normal form",
+        normalized::worlds_made_in_two_orders_are_alike(rt.alloc()),
         tally,
     )?;
     tell(

@@ -7,6 +7,7 @@ mod runs;
 
 use crate::rows::{commands_of, lines_of, wanted};
 use crate::sections::UNLIMITED;
+use each::Collection;
 use rhai_run::World;
 use rhai_text::Limits;
 use std::alloc::{AllocError, Global};
@@ -20,13 +21,22 @@ pub(crate) enum Way {
     Apply,
     /// Command by command, with a collection after each.
     Collect,
+    /// Command by command, each on the normal form of the world.
+    Normalize,
     /// In one run.
     Run,
     /// In one run over two worlds, the first of which has unreachable cells.
     Both,
 }
 
-pub(crate) const ALL: [Way; 5] = [Way::Lines, Way::Apply, Way::Collect, Way::Run, Way::Both];
+pub(crate) const ALL: [Way; 6] = [
+    Way::Lines,
+    Way::Apply,
+    Way::Collect,
+    Way::Normalize,
+    Way::Run,
+    Way::Both,
+];
 
 impl Way {
     /// Returns its name.
@@ -35,6 +45,7 @@ impl Way {
             Way::Lines => "lines",
             Way::Apply => "apply",
             Way::Collect => "collect",
+            Way::Normalize => "normalize",
             Way::Run => "run",
             Way::Both => "both",
         }
@@ -71,7 +82,12 @@ fn answer(
     let is_right = match way {
         Way::Lines => lines::run_lines_at_last(rt, alloc, rows, out),
         Way::Apply => each::apply_each(rt, alloc, &mut world, &lines, &commands, out),
-        Way::Collect => each::collect_after_each(rt, alloc, &mut world, &commands, out),
+        Way::Collect => {
+            each::collect_after_each(rt, alloc, Collection::Plain, &mut world, &commands, out)
+        }
+        Way::Normalize => {
+            each::collect_after_each(rt, alloc, Collection::InOrder, &mut world, &commands, out)
+        }
         Way::Run => runs::run_at_last(rt, alloc, &mut world, &commands, out),
         Way::Both => runs::both_answer(rt, alloc, &mut world, limits, &commands, out),
     };

@@ -13,7 +13,8 @@ use std::fmt;
 /// Calls made through it count towards the run's limits on operations, time, memory, output and
 /// nested calls; each uses two levels of nesting. Up to sixty-four host functions may wait for each
 /// other. If one of these limits ends the run, each call in it ends with that error, and so does
-/// the run, whatever the host functions return.
+/// the run, whatever the host functions return. If the script calls `exit` in one, each call in the
+/// run ends with `EvalError::Ended`, and the run is done with the value.
 ///
 /// ```
 /// use rhai_world::{Call, Engine, EvalError, Function};
@@ -142,24 +143,39 @@ impl Call<'_> {
                 Stop::Statement => self.engine.at_statement(line, column),
                 Stop::Memory => return Err(EvalError::OutOfMemory { line, column, calls: Vec::new() }),
                 Stop::Fault { message } => return Err(EvalError::Runtime { message, line, column, calls: Vec::new() }),
-                Stop::Done | Stop::Calls { .. } => return Err(EvalError::Unexpected),
+                // (the script has exited: the run is done with a value, whatever the host function returns)
+                Stop::Done => return Err(EvalError::Ended),
+                Stop::Calls { .. } => return Err(EvalError::Unexpected),
             }
         }
     }
 
     /// Records how far the run went, and passes on what it printed.
     pub(super) fn see(&mut self, went: Went) -> Result<Stop, EvalError> {
-        let Went { printed, operations, line, column, stop } = went;
+        let Went { printed, debugs, operations, line, column, stop } = went;
         (self.used.operations, self.used.line, self.used.column) = (operations, line, column);
-        if printed.is_empty() {
-            return Ok(stop);
+        let mut at = 0;
+        for debug in debugs {
+            let end = debug.begin.saturating_add(debug.length);
+            let (before, text) = printed.get(at..debug.begin).zip(printed.get(debug.begin..end)).ok_or(EvalError::Unexpected)?;
+            self.print(before)?;
+            self.used.print(&self.engine.watch, text)?;
+            self.engine.debug(line_of(text), debug.line, debug.column);
+            at = end;
         }
+        self.print(printed.get(at..).ok_or(EvalError::Unexpected)?)?;
+        Ok(stop)
+    }
+
+    /// Passes printed lines on.
+    fn print(&mut self, printed: &str) -> Result<(), EvalError> {
+        let (line, column) = (self.used.line, self.used.column);
         for text in printed.split_inclusive('\n') {
             self.used.print(&self.engine.watch, text)?;
-            let printed = self.engine.print(text.strip_suffix('\n').unwrap_or(text));
+            let printed = self.engine.print(line_of(text));
             printed.map_err(|error| EvalError::NotPrinted { why: error.to_string(), line, column, calls: Vec::new() })?;
         }
-        Ok(stop)
+        Ok(())
     }
 
     /// Calls a host function; returns how the run stopped if the call failed and nothing caught
@@ -168,8 +184,10 @@ impl Call<'_> {
         self.used.refused = None;
         let (within, engine) = (self.used.within, self.engine);
         let answered = engine.call(function, self);
-        if let Some(ended) = self.used.ended.take() {
-            return Err(ended);
+        match self.used.ended.take() {
+            Some(EvalError::Ended) => return Ok(Some(Stop::Done)),
+            Some(ended) => return Err(ended),
+            None => {}
         }
         let answered = match answered {
             Ok(answered) => answered,
@@ -201,4 +219,9 @@ impl fmt::Debug for Call<'_> {
     fn fmt(&self, f: &mut fmt::Formatter<'_>) -> fmt::Result {
         f.debug_struct("Call").field("used", &self.used).finish_non_exhaustive()
     }
+}
+
+/// A line without its line feed.
+fn line_of(text: &str) -> &str {
+    text.strip_suffix('\n').unwrap_or(text)
 }

@@ -145,7 +145,7 @@ pub enum EvalError {
     },
     /// The bytes are no saved scope.
     NotSaved,
-    /// The run had already ended.
+    /// The run had already ended; in a host function, by `exit`.
     Ended,
     /// The library's handle has another layout than the one this crate was built for.
     OtherLibrary,

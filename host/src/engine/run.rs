@@ -1,7 +1,7 @@
 //! Paused runs, and their execution in pieces.
 use super::error::MOST_CALLS;
 use super::function::{Found, Standing};
-use super::stop::Stop;
+use super::stop::{Stop, Went};
 use super::watch::Used;
 use super::{Ast, Call, CallPlace, Engine, EvalError, Function, Scope, Wanted};
 use crate::memory::Memory;
@@ -62,6 +62,8 @@ pub struct Run<'a> {
     scope: &'a mut Scope,
     /// The function to call after the statements outside functions.
     function: Option<(Cow<'a, str>, Vec<Value>)>,
+    /// How far it got when it started.
+    went: Option<Went>,
     /// How many variables are left at the end, if not all.
     stay: Option<usize>,
     stands: bool,
@@ -70,9 +72,13 @@ pub struct Run<'a> {
 }
 
 impl<'a> Run<'a> {
-    pub(super) fn begin(engine: &'a Engine, scope: &'a mut Scope, ast: &Ast) -> Result<Run<'a>, EvalError> {
+    fn new(engine: &'a Engine, scope: &'a mut Scope) -> Run<'a> {
         let used = Used::new(&engine.watch);
-        let run = Run { engine, scope, function: None, stay: None, stands: true, stops: false, used };
+        Run { engine, scope, function: None, went: None, stay: None, stands: true, stops: false, used }
+    }
+
+    pub(super) fn begin(engine: &'a Engine, scope: &'a mut Scope, ast: &Ast) -> Result<Run<'a>, EvalError> {
+        let run = Run::new(engine, scope);
         run.scope.begin(ast, engine, true)?;
         Ok(run)
     }
@@ -86,8 +92,7 @@ impl<'a> Run<'a> {
         arguments: Vec<Value>,
     ) -> Result<Run<'a>, EvalError> {
         scope.owns(function)?;
-        let used = Used::new(&engine.watch);
-        let run = Run { engine, scope, function: None, stay: None, stands: true, stops: false, used };
+        let run = Run::new(engine, scope);
         run.scope.begin(ast, engine, false)?;
         run.scope.call_function(function, arguments)?;
         Ok(run)
@@ -102,11 +107,38 @@ impl<'a> Run<'a> {
         name: Cow<'a, str>,
         arguments: Vec<Value>,
     ) -> Result<Run<'a>, EvalError> {
-        let before = scope.len();
-        let mut run = Run::begin(engine, scope, ast)?;
-        run.function = Some((name, arguments));
-        run.stay = Some(before);
+        let mut run = Run::new(engine, scope);
+        run.start_call(ast, name, arguments)?;
         Ok(run)
+    }
+
+    fn start_call(&mut self, ast: &Ast, name: Cow<'a, str>, arguments: Vec<Value>) -> Result<(), EvalError> {
+        self.stay = Some(self.scope.len());
+        self.scope.begin(ast, self.engine, true)?;
+        self.function = Some((name, arguments));
+        Ok(())
+    }
+
+    /// Calls a function as `begin_call` does, and finishes. A script without statements outside
+    /// functions starts, calls and ends in one crossing, as far as the engine lets it go at once.
+    pub(super) fn call_whole<T: Wanted>(
+        engine: &'a Engine,
+        scope: &'a mut Scope,
+        ast: &Ast,
+        name: &'a str,
+        arguments: Vec<Value>,
+    ) -> Result<T, EvalError> {
+        let mut run = Run::new(engine, scope);
+        run.used.begin_piece(&engine.watch);
+        if !engine.stops_at_statements() && run.used.check(&engine.watch).is_ok() {
+            let granted = run.used.granted(&engine.watch, u64::MAX);
+            run.went = run.scope.call_at_once(ast, engine, name, &arguments, granted)?;
+        }
+        run.used.end_piece();
+        if run.went.is_none() {
+            run.start_call(ast, name.into(), arguments)?;
+        }
+        run.finish()
     }
 
     /// Continues for at most this many operations, and returns how far it got. The size of new
@@ -223,12 +255,17 @@ impl Run<'_> {
     /// Continues until it has used this many operations, is done, or has to stop.
     fn advance<T: Wanted>(&mut self, until: u64) -> Result<Came<T>, EvalError> {
         loop {
-            self.used.check(&self.engine.watch)?;
-            if self.used.operations >= until {
-                self.scope.settle()?;
-                return Ok(Came::Paused);
-            }
-            let went = self.scope.go(self.used.granted(&self.engine.watch, until))?;
+            let went = match self.went.take() {
+                Some(went) => went,
+                None => {
+                    self.used.check(&self.engine.watch)?;
+                    if self.used.operations >= until {
+                        self.scope.settle()?;
+                        return Ok(Came::Paused);
+                    }
+                    self.scope.go(self.used.granted(&self.engine.watch, until))?
+                }
+            };
             let mut stop = self.call().see(went)?;
             if let Stop::Calls { function } = stop {
                 match self.call().answer(function)? {

@@ -1,6 +1,6 @@
 //! The variables of scripts, and runs over them.
 use super::function::{Found, Ledger, Standing};
-use super::stop::Scalar;
+use super::stop::{Scalar, Went};
 use super::{Ast, Engine, EvalError, Wanted};
 use crate::error::{done, Error};
 use crate::limits::Limits;
@@ -43,13 +43,15 @@ pub struct Scope {
     pub(super) stop: ScriptStop,
     /// The result of a host function, which the run gets when it continues.
     pub(super) waiting: Option<Scalar>,
+    /// Whether the library notes lines of `debug`.
+    pub(super) notes_debugs: bool,
 }
 
 impl Scope {
     /// Makes a scope without variables.
     pub fn new() -> Result<Scope, EvalError> {
         let (stop, ledger) = (ScriptStop::default(), Arc::default());
-        Ok(Scope { world: World::new(Limits::default())?, compiled: None, ledger, stop, waiting: None })
+        Ok(Scope { world: World::new(Limits::default())?, compiled: None, ledger, stop, waiting: None, notes_debugs: false })
     }
 
     /// Declares a variable.
@@ -219,6 +221,7 @@ impl Scope {
                 if engine.stops_at_statements() {
                     self.stop_at_statements(true)?;
                 }
+                self.note_debugs(engine)?;
                 Ok(true)
             }
             Err(Error::NoCommand) => Ok(false),
@@ -236,9 +239,54 @@ impl Scope {
         }
     }
 
+    /// Starts a run of a script, calls a function of it, and continues for at most this many
+    /// operations, where the library does all that at once.
+    pub(super) fn call_at_once(
+        &mut self,
+        ast: &Ast,
+        engine: &Engine,
+        name: &str,
+        arguments: &[Value],
+        operations: u64,
+    ) -> Result<Option<Went>, EvalError> {
+        self.let_go();
+        self.world.set_max_memory(engine.limits().memory);
+        if self.compiled != Some((ast.serial(), engine.serial())) {
+            self.compile_within(ast, engine)?;
+        }
+        self.note_debugs(engine)?;
+        let (text, items) = engine.limits().numbers();
+        let (handle, stop) = (&self.world.handle, &mut self.stop);
+        let (name, arguments) = (name.as_bytes(), Value::list_bytes(arguments)?);
+        match done(sys::script_call_at_once(
+            handle,
+            text,
+            items,
+            engine.entries(),
+            engine.calls(),
+            name,
+            &arguments,
+            operations,
+            stop,
+        )) {
+            Ok(()) => self.went().map(Some),
+            Err(Error::NoCommand) => Ok(None),
+            Err(error) => Err(error.into()),
+        }
+    }
+
     /// Sets whether the run stops before each statement.
     pub(crate) fn stop_at_statements(&mut self, stops: bool) -> Result<(), EvalError> {
         Ok(done(sys::script_stop_at_statements(&self.world.handle, stops))?)
+    }
+
+    /// Has the library note lines of `debug`, if the engine takes them apart.
+    fn note_debugs(&mut self, engine: &Engine) -> Result<(), EvalError> {
+        if self.notes_debugs != engine.takes_debugs() {
+            done(sys::script_note_debugs(&self.world.handle, engine.takes_debugs()))?;
+            self.notes_debugs = engine.takes_debugs();
+        }
+        Ok(())
     }
 
     /// Ends the run, if there is one: the scope has its variables back, without a limit on memory.

@@ -8,12 +8,24 @@ use crate::value::Value;
 pub(crate) struct Went {
     /// What it printed.
     pub(crate) printed: String,
+    /// Which lines of that `debug` printed, in order, if the engine asks for them.
+    pub(crate) debugs: Vec<Debugged>,
     /// How many operations it has used so far.
     pub(crate) operations: u64,
     /// Where it is; 0 if it is done.
     pub(crate) line: u32,
     pub(crate) column: u32,
     pub(crate) stop: Stop,
+}
+
+/// A line of `debug` in what a run printed.
+pub(crate) struct Debugged {
+    /// The bytes before it, and its own with the line feed.
+    pub(crate) begin: usize,
+    pub(crate) length: usize,
+    /// Where `debug` was called.
+    pub(crate) line: u32,
+    pub(crate) column: u32,
 }
 
 /// Why a run stopped.
@@ -123,8 +135,9 @@ impl Scope {
     }
 
     #[inline]
-    fn went(&self) -> Result<Went, EvalError> {
+    pub(super) fn went(&self) -> Result<Went, EvalError> {
         let (printed, message) = self.texts(&self.stop)?;
+        let debugs = if self.notes_debugs && !printed.is_empty() { self.debugs()? } else { Vec::new() };
         let ScriptStop { kind, function, line, column, operations, .. } = self.stop;
         let stop = match kind {
             0 => Stop::Done,
@@ -137,7 +150,21 @@ impl Scope {
             8 => Stop::Refused { message },
             _ => return Err(EvalError::Unexpected),
         };
-        Ok(Went { printed, operations, line, column, stop })
+        Ok(Went { printed, debugs, operations, line, column, stop })
+    }
+
+    /// Which of the printed lines are those of `debug`.
+    fn debugs(&self) -> Result<Vec<Debugged>, EvalError> {
+        let mut told = Told::default();
+        let status = sys::script_debugs(&self.world.handle, &mut told);
+        let bytes = self.world.bytes(status, &told)?;
+        let numbers = bytes.chunks_exact(8).map(|bytes| u64::from_le_bytes(bytes.try_into().unwrap_or_default()));
+        let numbers: Vec<u64> = numbers.collect();
+        let debugs = numbers.chunks_exact(4).map(|it| {
+            let (begin, length) = (usize::try_from(it[0]).ok()?, usize::try_from(it[1]).ok()?);
+            Some(Debugged { begin, length, line: u32::try_from(it[2]).ok()?, column: u32::try_from(it[3]).ok()? })
+        });
+        debugs.collect::<Option<_>>().ok_or(EvalError::Unexpected)
     }
 
     /// What was printed, and what went wrong.

@@ -22,11 +22,12 @@ impl Snapshot {
     /// Errors: an allocation fails; `Error::Unexpected` if the bytes are no snapshot.
     pub(crate) fn of_bytes(bytes: &[u8]) -> Result<Snapshot, Error> {
         let mut reading = Reading { left: Reader { bytes }, parts: Vec::new(), reached: 0 };
-        let (mut calls, mut variables, mut hand) = (None, Vec::new(), None);
+        let (mut calls, mut variables, mut hand, mut marks) = (None, Vec::new(), None, 0);
         match reading.byte()? {
             0 => variables = reading.variables()?,
             1 => calls = Some(reading.calls()?),
             2 => {
+                marks = reading.marks()?;
                 (variables, hand) = (reading.variables()?, Some(reading.hand()?));
                 // (its entries are told from the newest to the oldest)
                 variables.reverse();
@@ -39,7 +40,7 @@ impl Snapshot {
             push(&mut cells, content)?;
         }
         if reading.left.bytes.is_empty() {
-            Ok(Snapshot { parts: reading.parts, calls, variables, hand, cells })
+            Ok(Snapshot { parts: reading.parts, calls, variables, hand, marks, cells })
         } else {
             Err(Error::Unexpected)
         }
@@ -113,6 +114,14 @@ impl Reading<'_> {
             push(&mut variables, variable)?;
         }
         Ok(variables)
+    }
+
+    /// Counts the marks; the first cells are theirs.
+    fn marks(&mut self) -> Result<usize, Error> {
+        while self.goes_on()? {
+            self.reached += 1;
+        }
+        Ok(self.reached)
     }
 
     fn hand(&mut self) -> Result<Vec<usize>, Error> {

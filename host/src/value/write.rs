@@ -28,10 +28,18 @@ impl Value {
     /// Returns the bytes of an array of these values.
     pub(crate) fn list_bytes(values: &[Value]) -> Result<Vec<u8>, Error> {
         let mut out = Vec::new();
-        out.try_reserve(INT_BYTES * (values.len() + 1))?;
-        add_count(&mut out, &[5], values.len())?;
-        values.iter().try_for_each(|value| add_value(&mut out, value))?;
+        Value::add_list(values, &mut out)?;
         Ok(out)
+    }
+
+    /// Appends the bytes of an array of these values.
+    pub(crate) fn add_list(values: &[Value], out: &mut Vec<u8>) -> Result<(), Error> {
+        out.try_reserve(INT_BYTES * (values.len() + 1))?;
+        add_count(out, &[5], values.len())?;
+        values.iter().try_for_each(|value| match value {
+            Value::Int(n) => add_both(out, &[4], &n.to_le_bytes()),
+            other => add_value(out, other),
+        })
     }
 }
 

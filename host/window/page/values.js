@@ -23,6 +23,10 @@ export function groupsOf(picture) {
     return picture.calls.map((one, at) => ({ title: callName(one), path: `f${all - at}`, all: one.allRows, rows: rowsOf(one.rows, `f${all - at}`, true) }));
   }
   const groups = [{ title: picture.title ?? "variables", path: "f1", all: picture.allRows ?? 0, rows: rowsOf(picture.rows ?? [], "f1", false) }];
+  if (picture.allOpenMarks > 0) {
+    const rows = picture.openMarks.map((value, at) => ({ name: String(at), value, key: `open mark/${at}`, mark: "open" }));
+    groups.push({ title: "marks", path: "open mark", all: picture.allOpenMarks, rows });
+  }
   if (picture.allHand > 0) {
     const rows = picture.hand.map((value, at) => ({ name: String(at), value, key: `hand/${at}`, mark: picture.handMarks[at] }));
     groups.push({ title: "hand", path: "hand", all: picture.allHand, rows });

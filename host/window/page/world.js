@@ -117,11 +117,13 @@ class Drawing {
   cell(number) {
     const content = this.picture.cells[number];
     const box = this.box(content, `cell ${number}`, 0);
-    const wide = Math.max(box.wide, width(`cell ${number}`)) + 2 * PAD;
+    const isMarked = number < (this.picture.allOpenMarks ?? 0);
+    const title = isMarked ? `cell ${number}, marked` : `cell ${number}`;
+    const wide = Math.max(box.wide, width(title)) + 2 * PAD;
     return { number, wide, high: box.high + ROW + PAD,
       ports: box.ports.map((port) => ({ ...port, x: port.x + PAD, y: port.y + ROW })), paint: (x, y) =>
-        svg("g", { class: `cell ${hue(number)}`, "data-cell": number }, svg("rect", { x, y, width: wide, height: box.high + ROW + PAD, rx: 8 }),
-          write(x + 2 * PAD, y + 1, "title", `cell ${number}`), box.paint(x + PAD, y + ROW)) };
+        svg("g", { class: `cell ${hue(number)}${isMarked ? " marked" : ""}`, "data-cell": number }, svg("rect", { x, y, width: wide, height: box.high + ROW + PAD, rx: 8 }),
+          write(x + 2 * PAD, y + 1, "title", title), box.paint(x + PAD, y + ROW)) };
   }
 }
 

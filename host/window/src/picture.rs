@@ -36,8 +36,8 @@ pub fn unfolded(asked: &Value) -> Unfolded {
     asked["unfolded"].as_array().into_iter().flatten().filter_map(|path| Some(path.as_str()?.to_owned())).collect()
 }
 
-/// Returns what is drawn: functions or variables, the hand, and each cell that these reach. What is
-/// left out is counted.
+/// Returns what is drawn: functions or variables, open marks, the hand, and each cell that these
+/// reach. What is left out is counted.
 pub fn picture(snapshot: &Snapshot, unfolded: &Unfolded) -> Value {
     let (marks, left) = (Marks::new(snapshot), MOST_VALUES);
     let mut painter = Painter { snapshot, unfolded, marks, left, cells: Vec::new(), path: String::new() };
@@ -49,6 +49,8 @@ pub fn picture(snapshot: &Snapshot, unfolded: &Unfolded) -> Value {
         drawn.insert("rows".to_owned(), painter.rows("f1", snapshot.variables()));
         drawn.insert("allRows".to_owned(), snapshot.variables().len().into());
     }
+    drawn.insert("openMarks".to_owned(), painter.open_marks());
+    drawn.insert("allOpenMarks".to_owned(), snapshot.marks().into());
     let hand = snapshot.hand().take(MOST_ROWS).enumerate();
     let hand: Vec<Value> = hand.map(|(at, value)| painter.root(format!("hand/{at}"), value)).collect();
     drawn.insert("hand".to_owned(), hand.into());
@@ -98,6 +100,19 @@ impl<'a> Painter<'a> {
         rows.into()
     }
 
+    /// Draws the open marks of a world: each is drawn as a holder of its cell.
+    fn open_marks(&mut self) -> Value {
+        let marks = 0..self.snapshot.marks().min(MOST_ROWS);
+        marks.map(|number| self.holder(number)).collect::<Vec<_>>().into()
+    }
+
+    fn holder(&mut self, number: usize) -> Value {
+        if !self.cells.contains(&number) {
+            self.cells.push(number);
+        }
+        json!({ "k": "cell", "n": number })
+    }
+
     /// Draws a value that is in no other one.
     fn root(&mut self, path: String, value: Seen<'a>) -> Value {
         self.path = path;
@@ -132,12 +147,7 @@ impl<'a> Painter<'a> {
             Shape::Blob(bytes) => json!({ "k": "blob", "s": hex(bytes), "n": bytes.len() }),
             Shape::Other(other) => json!({ "k": "other", "s": other.to_string() }),
             Shape::Closed => json!({ "k": "closed" }),
-            Shape::Cell(number) => {
-                if !self.cells.contains(&number) {
-                    self.cells.push(number);
-                }
-                json!({ "k": "cell", "n": number })
-            }
+            Shape::Cell(number) => self.holder(number),
             Shape::Array(items) => json!({ "k": "array", "n": items.len(), "of": self.items(items, level) }),
             Shape::FnPtr(name, items) => {
                 json!({ "k": "fn", "s": cut(name), "n": items.len(), "of": self.items(items, level) })
@@ -198,7 +208,7 @@ fn hex(bytes: &[u8]) -> String {
 #[cfg(test)]
 mod tests {
     use super::{picture, unfolded};
-    use rhai_world::{Engine, EvalError, Scope};
+    use rhai_world::{Engine, Error, EvalError, Limits, Scope, World};
     use serde_json::{json, Value};
 
     fn drawn(script: &str, paths: Value) -> Result<Value, EvalError> {
@@ -215,6 +225,20 @@ mod tests {
         assert_eq!(drawn["rows"][2]["value"]["const"], json!(true));
         assert_eq!(drawn["cells"], json!({ "0": { "k": "int", "s": "7" } }));
         assert_eq!(drawn["rows"].as_array().map(Vec::len), Some(3));
+        Ok(())
+    }
+
+    #[test]
+    fn marked_cells_are_drawn_once() -> Result<(), Error> {
+        let mut world = World::new(Limits::new())?;
+        for line in ["int 7", "share 0", "copy 0", "push x 1", "mark 0"] {
+            world.line(line)?;
+        }
+        let drawn = picture(&world.snapshot()?, &unfolded(&json!({})));
+        let holder = json!({ "k": "cell", "n": 0 });
+        assert_eq!((&drawn["openMarks"], &drawn["allOpenMarks"]), (&json!([holder]), &json!(1)));
+        assert_eq!((&drawn["hand"][0], &drawn["rows"][0]["value"]), (&holder, &holder));
+        assert_eq!(drawn["cells"], json!({ "0": { "k": "int", "s": "7" } }));
         Ok(())
     }
 

@@ -337,6 +337,17 @@ def commands_have_answers(page):
     page.browser.wait("document.getElementById('line-count').textContent.startsWith('after line 13')")
 
 
+def a_marked_cell_is_drawn_once(page):
+    page.example(8)
+    page.value("document.querySelector('#line-gutter [data-line=\"8\"]').click()")
+    page.browser.wait("document.getElementById('line-count').textContent.startsWith('after line 8')")
+    titles = page.value("[...document.querySelectorAll('svg.world .title')].map((one) => one.textContent)")
+    equal(titles, ["entries", "marks", "hand", "cell 0, marked"])
+    # (the entry, the mark and the second value of the hand)
+    equal((page.count("svg.world .cell.marked"), page.count("svg.world .arrow")), (1, 3))
+    page.picture("marked.png", 1280, 800)
+
+
 def nothing_runs_unasked(page):
     text = 'print("é€");\nlet x = 1;'
     fragment = "#" + base64.urlsafe_b64encode(text.encode()).decode().rstrip("=")
@@ -362,7 +373,7 @@ def nothing_was_complained_about(page):
 TESTS = [the_page_alone_may_call, no_connection_waits_for_another, the_page_is_small, a_shared_counter_is_drawn, breakpoints_stop,
          steps_go_back, errors_are_underlined, loops_are_loops, keys_are_enough, endless_scripts_are_stopped, texts_stay_texts,
          steps_are_fast, unfolded_values_are_asked_for, an_error_has_the_values_before_it, commands_have_answers,
-         nothing_runs_unasked, nothing_was_complained_about]
+         a_marked_cell_is_drawn_once, nothing_runs_unasked, nothing_was_complained_about]
 
 
 def main():

@@ -1,5 +1,6 @@
 //! Engines: variables, scripts and runs as a host keeps them, and values from bytes.
 
+use crate::host::ints;
 use crate::runs::LIMITS;
 use rhai_value::{Dynamic, INT};
 use script_code::HostName;
@@ -52,9 +53,7 @@ fn an_engine_is_used(alloc: Global) -> Option<bool> {
         .ok()?;
     let begun = engine.begin(&LIMITS, true).ok()?;
     let first = driven(&mut engine)?;
-    let mut arguments = Vec::new(alloc);
-    arguments.push(Dynamic::from_int(4)).ok()?;
-    let called = engine.call("twice", arguments).ok()?;
+    let called = engine.call("twice", ints(alloc, &[4])?).ok()?;
     let second = driven(&mut engine)?;
     engine.end();
     let left = engine.scope().get(0)?.as_int(engine.store()).ok()?;
@@ -106,4 +105,41 @@ fn other_bytes_are_no_value(rt: HostRuntime) {
         Err(Unread::Form)
     );
     assert!(rt; goes_on && no_kind && too_many);
+}
+
+/// What `call_at_once` returns: nothing for a script with statements, an unknown function and too
+/// few operations; then a value, and a pause.
+fn at_once(alloc: Global) -> Option<bool> {
+    let mut engine = Engine::new(alloc);
+    engine.compile("fn sum(x, y) { x + y } 1", &[]).ok()?;
+    let body = engine
+        .call_at_once(&LIMITS, "sum", ints(alloc, &[3, 4])?, 100)
+        .ok()?;
+    engine
+        .compile("fn sum(x, y) { x + y } fn endless() { loop {} }", &[])
+        .ok()?;
+    let unknown = engine
+        .call_at_once(&LIMITS, "sum", ints(alloc, &[3])?, 100)
+        .ok()?;
+    let few = engine
+        .call_at_once(&LIMITS, "sum", ints(alloc, &[3, 4])?, 2)
+        .ok()?;
+    let none = body.is_none() && unknown.is_none() && few.is_none() && engine.run().is_none();
+    let done = engine
+        .call_at_once(&LIMITS, "sum", ints(alloc, &[3, 4])?, 100)
+        .ok()?;
+    let sum = engine.value().as_int(engine.store()).ok()?;
+    let again = engine
+        .call_at_once(&LIMITS, "endless", ints(alloc, &[])?, 100)
+        .ok()?;
+    let is_done = matches!(done, Some(Step::Done)) && sum == 7;
+    Some(
+        none && is_done && matches!(again, Some(Step::Paused)) && engine.run()?.operations() == 100,
+    )
+}
+
+#[test]
+fn a_function_is_called_at_once(rt: HostRuntime) {
+    let is_called = at_once(rt.alloc());
+    assert!(rt; is_called == Some(true));
 }

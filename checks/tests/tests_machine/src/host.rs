@@ -1,7 +1,7 @@
 //! Host functions.
 
 use crate::runs::{begun, compiled, driven, is_told, value_of};
-use rhai_value::Dynamic;
+use rhai_value::{Array, Dynamic, INT};
 use script_code::Program;
 use script_run::{Outcome, Run};
 use std::alloc::Global;
@@ -92,6 +92,15 @@ fn a_run_that_waits_goes_on_only_with_an_answer(rt: HostRuntime) {
     assert!(rt; waits == Some(true));
 }
 
+/// Makes arguments of ints.
+pub(crate) fn ints(alloc: Global, numbers: &[INT]) -> Option<Array> {
+    let mut arguments = Vec::new(alloc);
+    for number in numbers {
+        arguments.push(Dynamic::from_int(*number)).ok()?;
+    }
+    Some(arguments)
+}
+
 /// The value of the statements is 1 + 1, that of a call 3 + 4, another call fails, and the run can
 /// be called again.
 fn is_called_again(alloc: Global) -> Option<bool> {
@@ -99,17 +108,16 @@ fn is_called_again(alloc: Global) -> Option<bool> {
         "fn sum(a, b) { a + b }\nfn fails() { 1 / 0 }\nlet n = 1; let f = || n; n += 1; f.call()";
     let program = compiled(alloc, text)?;
     let mut run = begun(alloc, &program)?;
-    let early = run.call(&program, "fails", &[]).ok()?;
+    let early = run.call(&program, "fails", Vec::new(alloc)).ok()?;
     let first = driven(&mut run, &program, 100);
-    let arguments = [Dynamic::from_int(3), Dynamic::from_int(4)];
-    let unknown = run.call(&program, "sum", &[]).ok()?;
-    let begins = run.call(&program, "sum", &arguments).ok()?;
+    let unknown = run.call(&program, "sum", Vec::new(alloc)).ok()?;
+    let begins = run.call(&program, "sum", ints(alloc, &[3, 4])?).ok()?;
     let second = driven(&mut run, &program, 1);
     let is_right = value_of(&run, &first) == Some(2) && value_of(&run, &second) == Some(7);
-    let fails = run.call(&program, "fails", &[]).ok()?;
+    let fails = run.call(&program, "fails", Vec::new(alloc)).ok()?;
     let third = driven(&mut run, &program, 100);
     let is_failed = matches!(&third, Outcome::Fault(_));
-    let again = run.call(&program, "sum", &arguments).ok()?;
+    let again = run.call(&program, "sum", ints(alloc, &[3, 4])?).ok()?;
     let fourth = driven(&mut run, &program, 100);
     Some(
         !early

@@ -1,5 +1,6 @@
 //! Functions that a host keeps, and calls while the run waits for it, or once it is done.
 
+use crate::host::ints;
 use crate::runs::LIMITS;
 use rhai_value::{Dynamic, INT};
 use script_code::HostName;
@@ -28,10 +29,10 @@ fn names(alloc: Global) -> Option<Vec<HostName>> {
 }
 
 /// Starts a call of the function that `apply` receives.
-fn applies(engine: &mut Engine) -> Option<()> {
+fn applies(alloc: Global, engine: &mut Engine) -> Option<()> {
     let number = engine.keep_argument(0).ok()??;
     let given = engine.run()?.argument(1)?.as_int(engine.store()).ok()?;
-    let called = engine.call_kept(number, &[Dynamic::from_int(given)]).ok()?;
+    let called = engine.call_kept(number, ints(alloc, &[given])?).ok()?;
     if called && engine.let_go(number) && !engine.let_go(number) {
         Some(())
     } else {
@@ -50,12 +51,12 @@ fn bumps(engine: &mut Engine) -> Option<()> {
 }
 
 /// Continues by this many operations at a time until the run is done.
-fn driven(engine: &mut Engine, at_once: u64) -> Option<INT> {
+fn driven(alloc: Global, engine: &mut Engine, at_once: u64) -> Option<INT> {
     for _ in 0..100_000 {
         match engine.go(at_once) {
             Step::Done => return engine.value().as_int(engine.store()).ok(),
             Step::Paused | Step::Statement => {}
-            Step::Calls(0) => applies(engine)?,
+            Step::Calls(0) => applies(alloc, engine)?,
             Step::Calls(_) => bumps(engine)?,
             Step::Answered => {
                 let value = engine.value().as_int(engine.store()).ok()?;
@@ -81,7 +82,7 @@ fn value_of(alloc: Global, text: &str, at_once: u64) -> Option<INT> {
     let mut engine = Engine::new(alloc);
     engine.compile(text, &host).ok()?;
     engine.begin(&LIMITS, true).ok()?;
-    driven(&mut engine, at_once)
+    driven(alloc, &mut engine, at_once)
 }
 
 #[test]
@@ -135,13 +136,13 @@ fn a_function_is_kept(alloc: Global) -> Option<bool> {
     let text = "for i in 0..5000 { let x = i; let f = || x; }";
     engine.compile("let n = 1; |x| { n += x; n }", &host).ok()?;
     engine.begin(&LIMITS, false).ok()?;
-    let called = engine.call_kept(number, &[Dynamic::from_int(4)]).ok()?;
-    let first = driven(&mut engine, 1)?;
-    let wrong = engine.call_kept(number, &[]).ok()?;
+    let called = engine.call_kept(number, ints(alloc, &[4])?).ok()?;
+    let first = driven(alloc, &mut engine, 1)?;
+    let wrong = engine.call_kept(number, Vec::new(alloc)).ok()?;
     engine.end();
     engine.compile(text, &host).ok()?;
     engine.begin(&LIMITS, true).ok()?;
-    let _unit = driven(&mut engine, 1_000_000);
+    let _unit = driven(alloc, &mut engine, 1_000_000);
     engine.end();
     let left = engine.scope().get(0)?.as_int(engine.store()).ok()?;
     let is_kept = engine.kept(number).is_some() && engine.let_go(number);

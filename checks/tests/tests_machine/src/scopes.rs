@@ -1,5 +1,6 @@
 //! Variables that outlive a run, and calls from outside.
 
+use crate::host::ints;
 use crate::runs::{LIMITS, driven, value_of};
 use rhai_value::{Dynamic, INT};
 use script_code::{Program, compile};
@@ -167,9 +168,15 @@ fn a_scope_of_other_names_is_refused(rt: HostRuntime) {
 }
 
 /// Calls a function of two ints.
-fn called(run: &mut Run, program: &Program, name: &str, x: INT, y: INT) -> Option<INT> {
-    let arguments = [Dynamic::from_int(x), Dynamic::from_int(y)];
-    if !run.call(program, name, &arguments).ok()? {
+fn called(
+    alloc: Global,
+    run: &mut Run,
+    program: &Program,
+    name: &str,
+    x: INT,
+    y: INT,
+) -> Option<INT> {
+    if !run.call(program, name, ints(alloc, &[x, y])?).ok()? {
         return None;
     }
     let outcome = driven(run, program, 3);
@@ -188,13 +195,13 @@ fn functions_are_called(alloc: Global) -> Option<bool> {
     let mut scope = Scope::new(alloc);
     let program = compiled_for(alloc, &scope, FUNCTIONS)?;
     let mut run = Run::over(alloc, &program, &LIMITS, &mut scope).ok()??;
-    let early = called(&mut run, &program, "add", 1, 2);
+    let early = called(alloc, &mut run, &program, "add", 1, 2);
     let outcome = driven(&mut run, &program, 1_000);
     let kept = value_of(&run, &outcome)?;
-    let sum = called(&mut run, &program, "add", 40, 2)?;
-    let failed = called(&mut run, &program, "fail", 1, 2);
-    let power = called(&mut run, &program, "power", 2, 10)?;
-    let missing = called(&mut run, &program, "nowhere", 2, 10);
+    let sum = called(alloc, &mut run, &program, "add", 40, 2)?;
+    let failed = called(alloc, &mut run, &program, "fail", 1, 2);
+    let power = called(alloc, &mut run, &program, "power", 2, 10)?;
+    let missing = called(alloc, &mut run, &program, "nowhere", 2, 10);
     let ended = run_on(&mut run, &program);
     let nothing = value_of(&run, &ended);
     let scope = run.into_scope(&program);
@@ -218,7 +225,7 @@ fn the_body_is_left_out(alloc: Global) -> Option<bool> {
     let program = compiled_for(alloc, &scope, FUNCTIONS)?;
     let mut run = Run::over(alloc, &program, &LIMITS, &mut scope).ok()??;
     run.skip_body();
-    let sum = called(&mut run, &program, "add", 40, 2)?;
+    let sum = called(alloc, &mut run, &program, "add", 40, 2)?;
     let scope = run.into_scope(&program);
     Some(sum == 42 && scope.is_empty())
 }

@@ -35,6 +35,13 @@ impl DeepCells {
         }
     }
 
+    /// Returns whether a cell is open.
+    pub(crate) fn has(&self, cell: usize) -> bool
+        ensures { result ≡ is_open cell self.now }
+    {
+        self.cells.contains(&cell)
+    }
+
     /// Opens a cell unless it is open. Returns whether it was closed before.
     pub(crate) fn open(&mut self, cell: usize) -> Result<bool, AllocError>
         ensures told { IfOk result (λ is_new. is_new ≡ not (is_open cell self.old)) }

@@ -1,10 +1,11 @@
 //! The cells that a walk has open.
 ghost use Rattle.std.specs.Prelude.{◌≡◌, ◌<◌, ◌∷◌, [], length, drop, not, IfOk, IfSome, IfNone, IsOk, None, OnErr, option_copied, if◌then◌else◌};
 ghost use Rattle.rhai_value.specs.End.{first};
-ghost use Rattle.rhai_value.specs.Walk.{entry, is_open};
+ghost use Rattle.rhai_value.specs.Walk.{entry, holds_open, is_open};
 ghost use Rattle.rhai_value.specs.Tree.{cell_of};
 
 use crate::cells::deep_cells::DeepCells;
+use crate::cells::marks::WriteToken;
 use crate::cells::store::Store;
 use crate::value::dynamic::Dynamic;
 use arrayvec::ArrayVec;
@@ -91,6 +92,31 @@ impl Path {
             Ok(Some(content))
         } else {
             Ok(None)
+        }
+    }
+
+    /// Opens the marked cell of a token, which no holder enters. Returns whether it was closed
+    /// before.
+    /// Errors: the allocation for one more open cell fails, and nothing changes.
+    /// Cost: the logarithm of the number of open cells.
+    pub fn open_marked(&mut self, t: &WriteToken) -> Result<bool, AllocError>
+        ensures told { IfOk result (λ is_new. is_new ≡ not (is_open t.now self.old)) }
+        ensures opened { IfOk result (λ is_new. self.new ≡ (if is_new then t.now ∷ self.old else self.old)) }
+        ensures err { OnErr result (self.new ≡ self.old) }
+        ensures near { length self.old < FIRST_CELLS → IsOk result }
+    {
+        self.open(t.cell)
+    }
+
+    /// Returns whether the cell of a holder is open; `false` for a value that isn't a holder.
+    /// Cost: the logarithm of the number of open cells; no memory.
+    #[tactic(auto, using(crate::proofs::Paths::open_either))]
+    pub fn has_open(&self, value: &Dynamic) -> bool
+        ensures { result ≡ holds_open self.now value.now }
+    {
+        match value.cell() {
+            Some(cell) => self.first.as_slice().contains(&cell.index) || self.deep.has(cell.index),
+            None => false,
         }
     }
 

@@ -6,7 +6,24 @@ use crate::operators::{LOOSEST, MEMBERSHIP, POWER, operator_of};
 use crate::symbol::Symbol;
 use rhai_text::{Position, Token};
 use script_tree::{Expr, Operator, Term, UnaryOperator};
+use std::alloc::{AllocError, Global};
 use std::mem;
+
+/// `in` or `!in`, and the container behind it.
+#[derive(Drop)]
+struct Membership {
+    is_in: bool,
+    position: Position,
+    container: Expr,
+}
+
+/// Makes a list of two operands.
+fn pair_of(alloc: Global, first: Expr, second: Expr) -> Result<Vec<Expr>, AllocError> {
+    let mut operands = Vec::new(alloc);
+    operands.push(first)?;
+    operands.push(second)?;
+    Ok(operands)
+}
 
 impl Parser {
     /// Parses an expression with operators of at least this precedence.
@@ -111,26 +128,37 @@ impl Parser {
         P: Fn(&mut Parser, usize, Part) -> Option<Expr>,
         requires { P.IsAlwaysCallable parts.now }
     {
+        let test = self.container(levels, parts)?;
+        let operands = pair_of(self.alloc, test.container, item)?;
+        self.contains(operands, test.is_in, test.position)
+    }
+
+    /// Parses `in` or `!in`, and the container.
+    fn container<P>(&mut self, levels: usize, parts: &P) -> Result<Membership, SyntaxError>
+    where
+        P: Fn(&mut Parser, usize, Part) -> Option<Expr>,
+        requires { P.IsAlwaysCallable parts.now }
+    {
         let below = self.below(levels)?;
         let is_in = self.is_next(Symbol::In);
         self.lower()?;
         let position = self.position;
         self.advance()?;
         let container = self.inner(below, Part::Expression(least_behind(MEMBERSHIP)), parts)?;
-        self.contains(container, item, is_in, position)
+        Ok(Membership {
+            is_in,
+            position,
+            container,
+        })
     }
 
     /// Makes the test whether a container has an item, or lacks it.
     fn contains(
         &mut self,
-        container: Expr,
-        item: Expr,
+        operands: Vec<Expr>,
         is_in: bool,
         position: Position,
     ) -> Result<Expr, SyntaxError> {
-        let mut operands = Vec::new(self.alloc);
-        operands.push(container)?;
-        operands.push(item)?;
         let contains = Expr::Contains {
             callee: self.callees.number("contains", 2)?,
             operands,

@@ -56,6 +56,8 @@ impl Parser {
                 self.advance()?;
                 if self.is_next(Symbol::OpenParenthesis) {
                     self.call(levels, word, position, parts)
+                } else if self.is_next(Symbol::Not) && self.cursor.peek() == Some('(') {
+                    Err(self.fault(SyntaxFault::CallerVariables))
                 } else {
                     self.variable(word, position)
                 }

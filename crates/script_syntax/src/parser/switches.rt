@@ -9,8 +9,7 @@ use crate::lexeme::Lexeme;
 use crate::operators::LOOSEST;
 use crate::symbol::Symbol;
 use rhai_text::{ImmutableString, Token};
-use rhai_value::INT;
-use script_tree::{Block, Case, Expr, Pattern, Switch};
+use script_tree::{Block, Case, Expr, INT, Pattern, Switch};
 
 impl Parser {
     pub(super) fn switch<P>(&mut self, levels: usize, parts: &P) -> Result<Expr, SyntaxError>

@@ -51,16 +51,44 @@ pub(super) fn apply_each(
     Ok(true)
 }
 
+/// Whether a collection keeps the order of the cells.
+#[derive(Clone, Copy)]
+pub(super) enum Collection {
+    Plain,
+    InOrder,
+}
+
+impl Collection {
+    fn name(self) -> &'static str {
+        match self {
+            Collection::Plain => "collect",
+            Collection::InOrder => "normalize",
+        }
+    }
+
+    fn collect(self, world: &mut World) -> Result<(), AllocError> {
+        match self {
+            Collection::Plain => world.collect(),
+            Collection::InOrder => world.normalize(),
+        }
+    }
+}
+
 /// Collects. If an allocation fails, the world must be unchanged, and it is collected once more;
 /// then its view must be as before.
-fn collect_at_last(rt: &impl Eprint, alloc: Global, world: &mut World) -> Result<bool, AllocError> {
+fn collect_at_last(
+    rt: &impl Eprint,
+    alloc: Global,
+    collection: Collection,
+    world: &mut World,
+) -> Result<bool, AllocError> {
     let before = seen(alloc, world)?;
-    if world.collect().is_err() {
-        tell(rt, "collect");
+    if collection.collect(world).is_err() {
+        tell(rt, collection.name());
         if !is_seen(alloc, world, &before)? {
             return Ok(false);
         }
-        world.collect()?;
+        collection.collect(world)?;
     }
     is_seen(alloc, world, &before)
 }
@@ -69,13 +97,14 @@ fn collect_at_last(rt: &impl Eprint, alloc: Global, world: &mut World) -> Result
 pub(super) fn collect_after_each(
     rt: &impl Eprint,
     alloc: Global,
+    collection: Collection,
     world: &mut World,
     commands: &[Command],
     out: &mut Vec<u8>,
 ) -> Result<bool, AllocError> {
     for command in commands {
         let answer = apply(world, command)?;
-        if write_answer(&answer, out).is_err() || !collect_at_last(rt, alloc, world)? {
+        if write_answer(&answer, out).is_err() || !collect_at_last(rt, alloc, collection, world)? {
             return Ok(false);
         }
     }

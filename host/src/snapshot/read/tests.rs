@@ -99,10 +99,16 @@ fn calls_and_hands_are_read() -> Result<(), Error> {
     assert_eq!(inside, Some(vec![("x", Shape::Int(1))]));
 
     let hand = [[vec![1], cell(0)].concat(), [vec![1], cell(1)].concat(), vec![0]].concat();
-    let snapshot = read(&[vec![2], variable("x", &cell(0)), vec![0], hand, cell(1), cell(0)])?;
-    assert_eq!(shapes(snapshot.hand()), [Shape::Cell(0), Shape::Cell(1)]);
+    let snapshot = read(&[vec![2, 0], variable("x", &cell(0)), vec![0], hand.clone(), cell(1), cell(0)])?;
+    assert_eq!((snapshot.marks(), shapes(snapshot.hand())), (0, vec![Shape::Cell(0), Shape::Cell(1)]));
     assert_eq!(snapshot.cell(0).map(|value| value.shape()), Some(Shape::Cell(1)));
     assert_eq!(snapshot.cell(1).map(|value| value.shape()), Some(Shape::Cell(0)));
+
+    // (two cells have marks, and the first of them no holder)
+    let snapshot = read(&[vec![2, 1, 1, 0], variable("x", &cell(1)), vec![0, 0], int(7), int(8)])?;
+    assert_eq!((snapshot.marks(), snapshot.hand().len()), (2, 0));
+    let contents = shapes((0..3).filter_map(|number| snapshot.cell(number)));
+    assert_eq!(contents, [Shape::Int(7), Shape::Int(8)]);
     Ok(())
 }
 
@@ -117,7 +123,8 @@ fn other_bytes_are_refused() {
     assert_eq!(Snapshot::of_bytes(&[whole.clone(), vec![0]].concat()), Err(Error::Unexpected));
     let wrong = [
         vec![vec![3]],
-        vec![vec![2, 0, 2]],
+        vec![vec![2, 0, 0, 2]],
+        vec![vec![2, 1, 0, 0, 0]],
         // a cell before the ones before it, one without content, a huge array, an unknown kind, no text, a place that is no number
         vec![vec![0], variable("x", &cell(1)), vec![0], int(1), int(2)],
         vec![vec![0], variable("x", &cell(0)), vec![0]],

@@ -59,6 +59,7 @@ unsafe extern "C" {
         with_body: bool,
     ) -> u32;
     fn rhai_host_script_stop_at_statements(handle: *mut Handle, stops: bool) -> u32;
+    fn rhai_host_script_note_debugs(handle: *mut Handle, notes: bool) -> u32;
     fn rhai_host_script_go(handle: *mut Handle, operations: u64, stop: &mut ScriptStop) -> u32;
     fn rhai_host_script_call(
         handle: *mut Handle,
@@ -66,6 +67,19 @@ unsafe extern "C" {
         name_len: usize,
         arguments: *const u8,
         arguments_len: usize,
+    ) -> u32;
+    fn rhai_host_script_call_at_once(
+        handle: *mut Handle,
+        text: usize,
+        items: usize,
+        entries: usize,
+        calls: usize,
+        name: *const u8,
+        name_len: usize,
+        arguments: *const u8,
+        arguments_len: usize,
+        operations: u64,
+        stop: &mut ScriptStop,
     ) -> u32;
     fn rhai_host_script_end(handle: *mut Handle) -> u32;
 }
@@ -100,6 +114,15 @@ pub fn script_stop_at_statements(handle: &Handle, stops: bool) -> u32 {
     unsafe { rhai_host_script_stop_at_statements(handle.lent().at(), stops) }
 }
 
+/// Sets whether this run and later ones note which printed lines are those of `debug`, for
+/// `rhai_host_script_debugs`.
+#[inline]
+pub fn script_note_debugs(handle: &Handle, notes: bool) -> u32 {
+    // SAFETY: `handle` is zeros or what a call left, and this call's alone: it is no `Sync`, and the library comes back by
+    // the doors only. Any `notes` will do.
+    unsafe { rhai_host_script_note_debugs(handle.lent().at(), notes) }
+}
+
 /// Continues the run for at most this many operations.
 #[inline]
 pub fn script_go(handle: &Handle, operations: u64, stop: &mut ScriptStop) -> u32 {
@@ -116,6 +139,45 @@ pub fn script_call(handle: &Handle, name: &[u8], arguments: &[u8]) -> u32 {
     // the doors only. `name` is a slice with its own length, and is read. `arguments` is a slice with its own length, and is
     // read.
     unsafe { rhai_host_script_call(handle.lent().at(), name.as_ptr(), name.len(), arguments.as_ptr(), arguments.len()) }
+}
+
+/// Starts a run as `rhai_host_script_begin` does, of a script that has no statements outside
+/// functions, calls one of its functions as `rhai_host_script_call` does, and continues for at most
+/// this many operations. A run that is done has ended, if the stop reports its value. NO_COMMAND
+/// means that there is no run: the script has such statements, or no such function, or no operation
+/// is left for the function, or it is not a script for these variables.
+#[inline]
+#[allow(clippy::too_many_arguments)]
+pub fn script_call_at_once(
+    handle: &Handle,
+    text: usize,
+    items: usize,
+    entries: usize,
+    calls: usize,
+    name: &[u8],
+    arguments: &[u8],
+    operations: u64,
+    stop: &mut ScriptStop,
+) -> u32 {
+    // SAFETY: `handle` is zeros or what a call left, and this call's alone: it is no `Sync`, and the library comes back by
+    // the doors only. `name` is a slice with its own length, and is read. `arguments` is a slice with its own length, and is
+    // read. `stop` is a whole `ScriptStop` that nobody else has. Any `text`, `items`, `entries`, `calls`, `operations` will
+    // do.
+    unsafe {
+        rhai_host_script_call_at_once(
+            handle.lent().at(),
+            text,
+            items,
+            entries,
+            calls,
+            name.as_ptr(),
+            name.len(),
+            arguments.as_ptr(),
+            arguments.len(),
+            operations,
+            stop,
+        )
+    }
 }
 
 /// Ends the run, wherever it is: its variables can be read and written then.

@@ -74,8 +74,9 @@ pub fn script_change(handle: &Handle, value: &[u8]) -> u32 {
 
 /// Starts a call of a kept function with these arguments: the hash bytes of an array of them. While
 /// a host function is being called, the run continues to a stop of kind 7 or 8, after which that
-/// call is open as before. Otherwise the script's body has to be done, and no call may be open.
-/// NO_COMMAND means that neither is the case, or that no such function takes this many arguments.
+/// call is open as before, or of kind 0, by `exit`, after which it is not. Otherwise the script's
+/// body has to be done, and no call may be open. NO_COMMAND means that neither is the case, or that
+/// no such function takes this many arguments.
 #[inline]
 pub fn function_call(handle: &Handle, number: usize, arguments: &[u8]) -> u32 {
     // SAFETY: `handle` is zeros or what a call left, and this call's alone: it is no `Sync`, and the library comes back by

@@ -11,6 +11,7 @@ unsafe extern "C" {
         column: &mut usize,
         told: &mut Told,
     ) -> u32;
+    fn rhai_host_script_debugs(handle: *mut Handle, told: &mut Told) -> u32;
     fn rhai_host_script_variable(handle: *mut Handle, function: usize, before: usize, number: &mut usize, told: &mut Told)
         -> u32;
     fn rhai_host_script_variable_value(handle: *mut Handle, function: usize, before: usize, told: &mut Told) -> u32;
@@ -26,6 +27,17 @@ pub fn script_function(handle: &Handle, number: usize, line: &mut usize, column:
     // the doors only. `line` is a whole `usize` that nobody else has. `column` is a whole `usize` that nobody else has.
     // `told` is a whole `Told` that nobody else has. Any `number` will do.
     unsafe { rhai_host_script_function(handle.lent().at(), number, line, column, told) }
+}
+
+/// Returns which lines `debug` printed of those that the last stop reported, for each four numbers
+/// of eight bytes: how many printed bytes are before it, how many it has with its line feed, and
+/// the line and column of the call. Each is returned once. There are none before
+/// `rhai_host_script_note_debugs`.
+#[inline]
+pub fn script_debugs(handle: &Handle, told: &mut Told) -> u32 {
+    // SAFETY: `handle` is zeros or what a call left, and this call's alone: it is no `Sync`, and the library comes back by
+    // the doors only. `told` is a whole `Told` that nobody else has.
+    unsafe { rhai_host_script_debugs(handle.lent().at(), told) }
 }
 
 /// Returns the name of the newest visible variable of an active function before the one of this

@@ -1,9 +1,9 @@
 //! Calls succeed if allocations do; and their results for worked values.
 use super::readme::push_held;
-use rhai_packs::{arrays, blobs, ints, maps, texts};
+use rhai_packs::{arrays, bits, blobs, chars, ints, maps, ranges, texts};
 use rhai_show::display_text;
 use rhai_text::{EvalAltResult, ImmutableString, Limits};
-use rhai_value::{Array, Dynamic, INT, Map, Store};
+use rhai_value::{Array, Dynamic, INT, InclusiveRange, Map, Store};
 use std::alloc::{AllocError, Global};
 
 const LIMITS: Limits = Limits { text: 8, items: 4 };
@@ -231,4 +231,113 @@ fn blobs_and_ints(alloc: Global) -> Result<bool, EvalAltResult> {
 #[test]
 fn blobs_have_the_low_bytes_of_ints(rt: HostRuntime) {
     assert!(rt; matches!(blobs_and_ints(rt.alloc()), Ok(true)));
+}
+
+fn ints_and_ranges() -> bool {
+    let signs = ints::sign(-7) == -1 && ints::sign(0) == 0 && ints::sign(9) == 1;
+    let odd = ints::is_odd(-3) && !ints::is_odd(4) && !ints::is_even(7);
+    let even = ints::is_even(INT::MIN) && ints::is_zero(0) && !ints::is_zero(1);
+    let range = ranges::range(2, 5);
+    let held = ranges::contains(&range, 2) && !ranges::contains(&range, 5);
+    let last = InclusiveRange { start: 2, end: 2 };
+    let one = ranges::contains_with_end(&last, 2) && !ranges::is_empty_with_end(&last);
+    let none = ranges::is_empty(&ranges::range(2, 2)) && !ranges::is_empty(&range);
+    signs && odd && even && held && one && none
+}
+
+#[test]
+fn ints_and_ranges_are_asked(rt: HostRuntime) {
+    assert!(rt; ints_and_ranges());
+}
+
+fn bytes_of_texts(alloc: Global) -> Result<bool, EvalAltResult> {
+    let text = ImmutableString::from_str(alloc, "xé")?;
+    let mut bytes = texts::to_blob(alloc, &LIMITS, &text)?;
+    let are_there = blobs::contains(&bytes, 195) && !blobs::contains(&bytes, 0);
+    let low = blobs::contains(&bytes, 256 + 169) && !blobs::is_empty(&bytes);
+    let ints = prints(alloc, blobs::to_array(alloc, &bytes)?, "[120, 195, 169]")?;
+    blobs::clear(&mut bytes);
+    Ok(texts::bytes(&text) == 3 && are_there && low && ints && blobs::is_empty(&bytes))
+}
+
+#[test]
+fn texts_have_bytes(rt: HostRuntime) {
+    assert!(rt; matches!(bytes_of_texts(rt.alloc()), Ok(true)));
+}
+
+fn bits_of_ints(alloc: Global) -> Result<bool, EvalAltResult> {
+    let mut number = 0b1011;
+    let asked = bits::get_bit(number, 0) == Some(true) && bits::get_bit(number, -1) == Some(false);
+    let none = bits::get_bit(number, 64).is_none() && bits::get_bit(number, -65).is_none();
+    let parts = bits::get_bits(number, 1, 3) == Some(5) && bits::get_bits(number, 99, 0) == Some(0);
+    let set = bits::set_bits(&mut number, 4, 4, 31) && number == 251;
+    let top = bits::set_bit(&mut number, -1, true) && number == INT::MIN + 251;
+    let refused = !bits::set_bits(&mut number, 64, 1, 1) && number == INT::MIN + 251;
+    let cut = bits::get_bits(number, 60, 99) == Some(8) && bits::mask(62, 2) == -4 << 60;
+    let all = bits::bits(alloc, 5)?;
+    let lowest = arrays::get(&all, 0).is_some_and(|bit| bit.as_bool(&Store::new(alloc))
+        == Ok(true));
+    let written = ints::to_hex(alloc, -1)?.as_str() == "ffffffffffffffff"
+        && ints::to_octal(alloc, 8)?.as_str() == "10"
+        && ints::to_binary(alloc, 0)?.as_str() == "0";
+    let many = lowest && all.len() == 64 && bits::mask(0, 0) == 0;
+    Ok(asked && none && parts && set && top && refused && cut && many && written)
+}
+
+#[test]
+fn bits_of_ints_are_read_and_set(rt: HostRuntime) {
+    assert!(rt; matches!(bits_of_ints(rt.alloc()), Ok(true)));
+}
+
+fn written_bytes(alloc: Global) -> Result<bool, EvalAltResult> {
+    let mut bytes = blobs::blob(alloc, &LIMITS, 4, 0)?;
+    blobs::write_le(&mut bytes, 1, 2, 0x010203);
+    let low = prints(alloc, blobs::to_array(alloc, &bytes)?, "[0, 3, 2, 0]")?;
+    blobs::write_be(&mut bytes, -2, 9, 0x0102030405060708);
+    let high = prints(alloc, blobs::to_array(alloc, &bytes)?, "[0, 3, 1, 2]")?;
+    let read = blobs::parse_le_int(&bytes, 1, 2) == 0x0103
+        && blobs::parse_be_int(&bytes, -1, 1) == 2 << 56
+        && blobs::parse_le_int(&bytes, 9, 9) == 0;
+    blobs::write_ascii(&mut bytes, 1, 2, "éabc");
+    let ascii = prints(alloc, blobs::to_array(alloc, &bytes)?, "[0, 97, 98, 2]")?;
+    blobs::write_utf8(&mut bytes, 2, 9, "éé");
+    let utf8 = blobs::as_string(alloc, &bytes)?.as_str() == "\0aé";
+    blobs::set(&mut bytes, 2, 255);
+    let broken = blobs::as_string(alloc, &bytes)?.as_str() == "\0a\u{fffd}\u{fffd}";
+    Ok(low && high && read && ascii && utf8 && broken)
+}
+
+#[test]
+fn ints_and_texts_are_written_to_blobs(rt: HostRuntime) {
+    assert!(rt; matches!(written_bytes(rt.alloc()), Ok(true)));
+}
+
+fn moved_items(alloc: Global) -> Result<bool, EvalAltResult> {
+    let mut items = array_of(alloc, &[1, 2, 3, 4])?;
+    let removed = prints(alloc, arrays::drain(alloc, &mut items, 1, 2)?, "[2, 3]")?;
+    let none = arrays::drain(alloc, &mut items, 2, 5)?.is_empty();
+    let others = prints(alloc, arrays::retain(alloc, &mut items, -1, 1)?, "[1]")?;
+    Ok(removed && none && others && prints(alloc, items, "[4]")?)
+}
+
+#[test]
+fn items_are_moved_out_of_arrays(rt: HostRuntime) {
+    assert!(rt; matches!(moved_items(rt.alloc()), Ok(true)));
+}
+
+fn parts_of_texts(alloc: Global) -> Result<bool, EvalAltResult> {
+    let mut text = ImmutableString::from_str(alloc, "éaéb")?;
+    let found = texts::index_of_from(alloc, &text, "é", 1)? == Some(2)
+        && texts::index_of_from(alloc, &text, "é", -1)?.is_none()
+        && texts::index_of_from(alloc, &text, "é", -9)? == Some(0)
+        && texts::index_of_from(alloc, &text, "", 4)?.is_none();
+    texts::remove(alloc, &mut text, "é")?;
+    let cases = chars::to_upper('é') == 'É' && chars::to_upper('ß') == 'ß';
+    let lower = chars::to_lower('É') == 'é' && chars::to_int('é') == 233;
+    Ok(found && cases && lower && text.as_str() == "ab")
+}
+
+#[test]
+fn parts_are_found_in_texts(rt: HostRuntime) {
+    assert!(rt; matches!(parts_of_texts(rt.alloc()), Ok(true)));
 }

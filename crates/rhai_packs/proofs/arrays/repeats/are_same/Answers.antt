@@ -1,4 +1,3 @@
-use Rattle.std.proofs.Common.{IfSome, is_some, ap, subst}
 use Rattle.rhai_packs.proofs.Sames.{told_other, told_same}
 use Rattle.rhai_packs.proofs.arrays.repeats.are_same.Goals as goal
 

@@ -1,4 +1,4 @@
-use Rattle.std.proofs.Common.{length, ap, arith, ◌∙◌, rules}
+use Rattle.std.proofs.Common.{rules}
 use Rattle.rhai_packs.specs.Repeats.{IsRepeat}
 use Rattle.rhai_packs.proofs.Repeats.{each_more}
 use Rattle.rhai_packs.proofs.arrays.repeats.repeats.Goals as goal

@@ -1,0 +1,46 @@
+-- What a host sees of an engine: cells and kept functions are the run's while there is one, and
+-- otherwise those of the scope.
+use Rattle.std.specs.Prelude.{◌≡◌, if◌then◌else◌, Bool, List, Option}
+use Rattle.rhai_value.specs.declared.cells.store.Cell.{Cell}
+use Rattle.rhai_value.specs.Tree.{Tree}
+use Rattle.script_run.specs.Variables.{Variables, with_kept}
+use Rattle.script_run.specs.Runs.{cells_of, functions_of, with_functions, with_notes, SameButDebugs, SameButPrinted}
+use Rattle.script_engine.specs.declared.engine.Engine.{Engine}
+
+-- whether there is a run, which owns the variables
+abbrev pub runs : Engine → Bool
+runs e = e.is_running
+
+-- the value of the run
+abbrev pub value_of : Engine → Tree
+value_of e = e.value
+
+-- the variables; there are none while a run owns them
+abbrev pub scope_of : Engine → Variables
+scope_of e = e.scope
+
+-- the engine with other variables
+abbrev pub with_scope : Engine → Variables → Engine
+with_scope e v = record e { scope = v }
+
+abbrev pub cells_in : Engine → List Cell
+cells_in e = if e.is_running then cells_of e.run else e.scope.store
+
+abbrev pub kept_in : Engine → List (Option Tree)
+kept_in e = if e.is_running then functions_of e.run else e.scope.kept
+
+-- the engine with other kept functions
+abbrev pub with_kept_in : List (Option Tree) → Engine → Engine
+with_kept_in fs e = if e.is_running then record e { run = with_functions fs e.run } else record e { scope = with_kept fs e.scope }
+
+-- the engine f differs from e at most in what its run printed
+abbrev pub OnlyPrints : Engine → Engine → Type 0
+OnlyPrints e f = (f ≡ record e { run = f.run }) × SameButPrinted e.run f.run
+
+-- the engine whose run, or next one, notes lines of `debug`, or doesn't
+abbrev pub with_noting : Bool → Engine → Engine
+with_noting b e = record e { run = with_notes b e.run }
+
+-- the engine f differs from e at most in the notes on lines of `debug`
+abbrev pub OnlyForgets : Engine → Engine → Type 0
+OnlyForgets e f = (f ≡ record e { run = f.run }) × SameButDebugs e.run f.run

@@ -82,9 +82,9 @@ fn a_script_exits_within() -> Result<(), EvalError> {
     assert_eq!(engine.eval::<i64>("1 + apply(|x| 1 + apply(|y| exit(y * 2), x), 3)")?, 6);
     engine.run("or(|| exit(), 7); 1 / 0")?;
     let mut scope = Scope::of([("kept", 7)])?;
-    let text = "fn stop(n) { or(|| exit(n), 0) } let new = 1; kept += 1; stop(kept); let missing = 2;";
+    let text = "fn stop(n) { or(|| exit(n), 0) } let fresh = 1; kept += 1; stop(kept); let missing = 2;";
     assert_eq!(engine.eval_with_scope::<i64>(&mut scope, text)?, 8);
-    assert_eq!((scope.get::<i64>("kept"), scope.get::<i64>("new"), scope.len()), (Some(8), Some(1), 2));
+    assert_eq!((scope.get::<i64>("kept"), scope.get::<i64>("fresh"), scope.len()), (Some(8), Some(1), 2));
     assert_eq!(engine.eval_with_scope::<i64>(&mut scope, "kept + 1")?, 9);
     Ok(())
 }

@@ -1,4 +1,6 @@
+mod Characters
 mod Found
+mod Json
 mod Masks
 mod Mixed
 mod Moving

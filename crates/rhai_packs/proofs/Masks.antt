@@ -4,8 +4,8 @@ use Rattle.std.specs.Int.{bit_at}
 use Rattle.std.proofs.lemmas.Bool.{cases_lt, ltb-true, ltb-false, lt-ltb, le-ltb, le-leb, lt-leb}
 use Rattle.std.proofs.lemmas.Nat.{mod_below, pow_pos}
 use Rattle.std.proofs.lemmas.Nat.Bits.{bit_at-zero, bit_at_ones, bit_at_ones_above}
-use Rattle.rhai_target.specs.Bits.{digit}
-use Rattle.rhai_target.proofs.IntBits.{int_is, rest_digit, shifted_digit, down_digit}
+use Rattle.rhai_bits.specs.Bits.{digit}
+use Rattle.rhai_bits.proofs.IntBits.{int_is, rest_digit, shifted_digit, down_digit}
 use Rattle.rhai_packs.specs.Bits.{mask}
 
 -- the lowest bits of a number of ones, d of which were shifted out

@@ -35,39 +35,6 @@ cycled-one n c =
     let rest : n % 1 ≡ 0 = omega arith in
     ap (λ m. repeat m (c ∷ []) ++ take (n % 1) (c ∷ [])) whole ∙ ap (λ m. repeat n (c ∷ []) ++ take m (c ∷ [])) rest ∙ append-nil (repeat n (c ∷ [])) ∙ repeat_one n c
 
--- one character further in the bytes of a text's characters from i on
-pub one_on : (cs rest : List ℕ) (i c : ℕ) → encode_utf8_all (drop i cs) ≡ encode_utf8 c ++ rest → rest ≡ encode_utf8_all (drop (i + 1) cs)
-one_on cs rest i c e =
-    let next = cons_from_encodes (drop i cs) rest c e in
-    sym next.2 ∙ ap encode_utf8_all (sym (ap (drop 1) next.1) ∙ drop-drop 1 i cs)
-
--- if nothing is left from i on, the first characters up to a later index are all
-pub all_taken : (text : List ℕ) (i n : ℕ) → IsUtf8 text → length (encode_utf8_all (drop i (chars text))) ≡ 0 → i ≤ n → text ≡ encode_utf8_all (take n (chars text))
-all_taken text i n u e h =
-    let cs = chars text in
-    sym (encodes-chars text u) ∙ ap encode_utf8_all (sym (take_all n cs (omega (arith, length-drop i cs, length-le-encodes (drop i cs)))))
-
--- a text split where `back` begins, which is the bytes of its characters from n on
-module _ (text : List ℕ) (u : IsUtf8 text) (n : ℕ) (back : List ℕ) (ub : IsUtf8 back) (e : back ≡ encode_utf8_all (drop n (chars text))) where
-  both : text ≡ encode_utf8_all (take n (chars text)) ++ back
-  both =
-      sym (encodes-chars text u)
-      ∙ ap encode_utf8_all (sym (take-append-drop n (chars text)))
-      ∙ encodes-append (take n (chars text)) (drop n (chars text))
-      ∙ ap (λ bs. encode_utf8_all (take n (chars text)) ++ bs) (sym e)
-
-  pub back_fits : length back ≤ length text
-  back_fits = omega (arith, ap length both, length-append (encode_utf8_all (take n (chars text))) back)
-
-  seam : length (encode_utf8_all (take n (chars text))) ≡ length text - length back
-  seam = omega (arith, ap length both, length-append (encode_utf8_all (take n (chars text))) back)
-
-  pub cut_fits : IsCharBoundary text (length text - length back)
-  cut_fits = subst (IsCharBoundary text) seam (IsCharBoundary-at_seam text (encode_utf8_all (take n (chars text))) back both ub)
-
-  pub front_cut : take (length text - length back) text ≡ encode_utf8_all (take n (chars text))
-  front_cut = ap (take (length text - length back)) both ∙ take_at (encode_utf8_all (take n (chars text))) back (length text - length back) seam
-
 cycled-some : (m : ℕ) (cs : List ℕ) → 0 < length cs → cycled m cs ≡ repeat (m / length cs) cs ++ take (m % length cs) cs
 cycled-some m [] h = absurd (omega (arith, h))
 cycled-some m (c ∷ cs) h = refl

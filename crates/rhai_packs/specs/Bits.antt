@@ -1,7 +1,7 @@
 -- Parts of the 64 bits of an int.
 use Rattle.std.specs.Prelude.{ℕ, ℤ, ◌+◌, ◌-◌, Bool, ◌&&◌, nat_eq, nat_le, nat_lt, if◌then◌else◌, Option, Some, None, option_map}
 use Rattle.rhai_value.specs.Steps.{item_place}
-use Rattle.rhai_target.specs.Bits.{int_of_bits, field, with_bit, with_field}
+use Rattle.rhai_bits.specs.Bits.{int_of_bits, field, with_bit, with_field}
 use Rattle.rhai_packs.specs.Places.{part_count}
 
 -- the int in which bits are set from a place on, as many as given

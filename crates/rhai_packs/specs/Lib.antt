@@ -1,6 +1,7 @@
 pub mod Bits
 pub mod Entries
 pub mod Held
+pub mod Json
 pub mod Padding
 pub mod Places
 pub mod Radix

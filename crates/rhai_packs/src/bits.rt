@@ -2,13 +2,13 @@
 //! the end. Where rhai fails, since an index is out of range, these calls return `None` or `false`.
 ghost use Rattle.std.specs.Prelude.{◌≡◌, ◌<◌, ◌≤◌, ◌+◌, is_some, map, option_map, IfOk, IfSome};
 ghost use Rattle.std.specs.List.{range_with_len};
-ghost use Rattle.rhai_target.specs.Bits.{bit};
+ghost use Rattle.rhai_bits.specs.Bits.{bit};
 ghost use Rattle.rhai_value.specs.Steps.{item_place as place_of_item};
 ghost use Rattle.rhai_value.specs.Tree.{bool, fresh};
 ghost use Rattle.rhai_packs.specs.Bits.{bits_in, mask as mask_of, part_of, with_bit_at, with_bits_in};
 
 use crate::places::at_most;
-use rhai_target::bits::{bit_of, field_of, with_bit, with_field};
+use rhai_bits::{bit_of, field_of, with_bit, with_field};
 use rhai_value::{Array, Dynamic, INT, item_place};
 use std::alloc::{AllocError, Global};
 

@@ -11,6 +11,9 @@ ghost use Rattle.rhai_value.specs.Rows.{bytes_cmp};
 ghost use Rattle.rhai_value.specs.Tree.{copy, fresh, text};
 ghost use Rattle.rhai_packs.specs.Entries.{IsPartly, filled, mixed};
 
+mod json;
+
+pub use json::to_json;
 use rhai_value::{Array, Dynamic, Map};
 use std::alloc::{AllocError, Global};
 

@@ -1,6 +1,6 @@
 //! Functions on texts. A call that changes a text in rhai's scripts replaces it by a new one; the
 //! others return a new one. Indices and lengths count characters; `Limits` counts bytes.
-ghost use Rattle.std.specs.Prelude.{◌≡◌, ◌≤◌, ◌++◌, ◌-◌, ◌↔◌, [], ℕ, List, length, map, true, IfErr, IfOk, IfSome, IsTrue, OnErr, OnOk, string_bytes};
+ghost use Rattle.std.specs.Prelude.{◌≡◌, ◌≤◌, ◌++◌, ◌-◌, ◌↔◌, [], ℕ, List, drop, length, map, take, true, IfErr, IfOk, IfSome, IsTrue, OnErr, OnOk, string_bytes};
 ghost use Rattle.std.specs.Str.{chars as characters_of, encode_utf8_all, trim as trimmed};
 ghost use Rattle.std.specs.StrCase.Lower.{str_to_lowercase};
 ghost use Rattle.std.specs.StrCase.Upper.{str_to_uppercase};
@@ -15,7 +15,9 @@ mod padding;
 
 use crate::places::{at_most, cut_place};
 use crate::sizes::{may_grow, too_large};
-pub use cuts::{split, split_at, split_char};
+pub use cuts::{
+    split, split_at, split_at_most, split_char, split_rev, split_rev_at_most, split_words,
+};
 pub use padding::{pad, pad_with_string};
 use rhai_text::{EvalAltResult, ImmutableString, Limits, SizeKind};
 use rhai_value::{Array, Blob, Dynamic, INT};
@@ -268,27 +270,35 @@ pub fn index_of(text: &ImmutableString, part: &str) -> Option<usize>
 
 /// Finds the first occurrence of a part from an index on, and returns the number of characters
 /// before it in the text; `None` where rhai returns -1, as for an index past the last character.
-/// Errors: an allocation fails.
-/// Cost: the length of the text, for a given part; memory for the rest of the text.
+/// Cost: the length of the text, for a given part.
 /// rhai: `index_of`.
-pub fn index_of_from(
-    alloc: Global,
-    text: &ImmutableString,
-    part: &str,
-    index: INT,
-) -> Result<Option<usize>, AllocError>
-    ensures { IfOk result (IsFoundFrom text.now part.now (place_of_cut (length text.now) index)) }
+pub fn index_of_from(text: &ImmutableString, part: &str, index: INT) -> Option<usize>
+    ensures { IsFoundFrom text.now part.now (place_of_cut (length text.now) index) result }
 {
     let length = len(text);
     let start = cut_place(length, index);
     if start == length {
-        return Ok(None);
+        return None;
     }
-    let rest = text.slice(alloc, start, length, true)?;
-    match place_of(rest.as_str(), part) {
-        Some(place) => Ok(Some(start + place)),
-        None => Ok(None),
+    let (_, rest) = split_at_character(text.as_str(), start);
+    let place = place_of(rest, part)?;
+    Some(start + place)
+}
+
+/// The first `count` characters, and the others.
+fn split_at_character(text: &str, count: usize) -> (&str, &str)
+    ensures front { result.0.now ≡ encode_utf8_all (take count (characters_of text.now)) }
+    ensures back { result.1.now ≡ encode_utf8_all (drop count (characters_of text.now)) }
+    ensures others { characters_of result.1.now ≡ drop count (characters_of text.now) }
+{
+    let mut rest = text.chars();
+    for _ in 0..count {
+        match rest.next() {
+            Some(_) => {}
+            None => return (text, ""),
+        }
     }
+    text.split_at(text.len() - rest.as_str().len())
 }
 
 fn place_of(text: &str, part: &str) -> Option<usize>

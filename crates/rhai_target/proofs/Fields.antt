@@ -7,7 +7,7 @@ use Rattle.rhai_value.specs.Parts.{int_of}
 use Rattle.rhai_value.specs.End.{end, held_part, value_after, store_after}
 use Rattle.rhai_target.specs.declared.target.Target.{Target}
 use Rattle.rhai_target.specs.declared.target.Target.TheVariants.{BitField}
-use Rattle.rhai_target.specs.Bits.{with_field}
+use Rattle.rhai_bits.specs.Bits.{with_field}
 use Rattle.rhai_target.specs.Change.{on_int, field_change, value_changed, store_changed}
 use Rattle.rhai_target.specs.Target.{write_back_of, target_written, store_written}
 

@@ -1,7 +1,6 @@
 pub mod ForCallers
 pub mod FromBelow
 pub mod EndsAfter
-pub mod IntBits
 pub mod Items
 pub mod ReadBack
 pub mod Kept

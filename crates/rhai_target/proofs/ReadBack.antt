@@ -8,12 +8,12 @@ use Rattle.rhai_value.specs.Parts.{leaf_part, leaf_int, leaf_text, leaf_blob, bo
 use Rattle.rhai_value.specs.Store.{put}
 use Rattle.rhai_value.specs.End.{End, held, stuck, closed, end, held_part, value_after, store_after}
 use Rattle.rhai_value.proofs.ForCallers.{end_own}
-use Rattle.rhai_target.specs.Bits.{bit, int_of_bits, with_bit, with_field, field}
+use Rattle.rhai_bits.specs.Bits.{bit, int_of_bits, with_bit, with_field, field}
 use Rattle.rhai_value.specs.Bytes.{low_byte}
 use Rattle.rhai_target.specs.Change.{Change, with_leaf, bit_change, field_change, byte_change, char_change, value_changed, store_changed, end_changed}
 use Rattle.rhai_target.proofs.EndsAfter.{end_put}
 use Rattle.rhai_target.proofs.FromBelow.{put-same, stands}
-use Rattle.rhai_target.proofs.IntBits.{bit_written, other_bits, bit_kept, outside_field, inside_field, field_written, field_kept}
+use Rattle.rhai_bits.proofs.IntBits.{bit_written, other_bits, bit_kept, outside_field, inside_field, field_written, field_kept}
 use Rattle.rhai_target.proofs.Items.{changed, item_written, other_items, item_kept, byte_kept}
 
 -- a part of leaves

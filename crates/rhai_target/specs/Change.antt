@@ -13,7 +13,7 @@ use Rattle.rhai_value.specs.End.{End, end, held_part, held_cell, value_after, st
 use Rattle.rhai_show.specs.declared.form.Form.TheVariants.{Display}
 use Rattle.rhai_show.specs.Text.{printed}
 use Rattle.rhai_target.specs.declared.slice.Slice.{Slice}
-use Rattle.rhai_target.specs.Bits.{with_bit, with_field}
+use Rattle.rhai_bits.specs.Bits.{with_bit, with_field}
 
 -- the value with this leaf as its content, if there is one; tag and mode are kept
 abbrev pub with_leaf : Option Leaf → Tree → Tree

@@ -1,5 +1,4 @@
 pub mod Offset
-pub mod Bits
 pub mod Change
 pub mod Read
 pub mod Part

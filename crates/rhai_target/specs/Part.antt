@@ -13,7 +13,7 @@ use Rattle.rhai_target.specs.declared.part.ReadPart.{ReadPart}
 use Rattle.rhai_target.specs.declared.slice.Slice.{Slice}
 use Rattle.rhai_target.specs.declared.target.Target.{Target}
 use Rattle.rhai_target.specs.declared.target.Target.TheVariants.{Bit, BitField, BlobByte, StringChar, StringSlice}
-use Rattle.rhai_target.specs.Bits.{bit, field}
+use Rattle.rhai_bits.specs.Bits.{bit, field}
 use Rattle.rhai_target.specs.Change.{Change, bit_change, field_change, byte_change, char_change, slice_change}
 use Rattle.rhai_target.specs.Offset.{place}
 use Rattle.rhai_target.specs.Read.{slice_in}

@@ -8,7 +8,7 @@ ghost use Rattle.rhai_value.specs.Store.{is_marked_at};
 ghost use Rattle.rhai_value.specs.End.{End, end, held_part};
 ghost use Rattle.rhai_value.specs.Relation.{Renaming, Related, Alike, Respect, IsOneToOne, RelatedCells, RelatedEnds};
 ghost use Rattle.rhai_target.specs.declared.slice.Slice.{Slice};
-ghost use Rattle.rhai_target.specs.Bits.{bit, field, int_of_bits};
+ghost use Rattle.rhai_bits.specs.Bits.{bit, field, int_of_bits};
 ghost use Rattle.rhai_value.specs.Bytes.{low_byte};
 ghost use Rattle.rhai_target.specs.Change.{Change, with_leaf, on_int, on_bytes, on_text, bit_change, field_change, byte_change, char_change, slice_change, value_changed, store_changed, end_changed};
 ghost use Rattle.rhai_target.specs.Offset.{offset, count, place};

@@ -2,7 +2,6 @@
 //! integers.
 #![tactic(auto)]
 
-pub mod bits;
 pub mod laws;
 mod lent;
 mod offset;

@@ -5,11 +5,11 @@ ghost use Rattle.rhai_value.specs.Parts.{int_of, text_of, blob_of};
 ghost use Rattle.rhai_target.specs.Change.{value_changed, store_changed, IsAnswer};
 ghost use Rattle.rhai_target.specs.Part.{IsRead, HasPlace, bit_part, field_part, byte_part, char_part, char_read, slice_part, part_change, wanted_at, wants_memory, target_at};
 
-use crate::bits::{bit_of, field_of};
 use crate::offset::calc_index;
 use crate::slice::{Slice, write_slice};
 use crate::target::Target;
 use crate::write_back::{write_bit, write_byte, write_char, write_field};
+use rhai_bits::{bit_of, field_of};
 use rhai_text::{EvalAltResult, ImmutableString, Position};
 use rhai_value::{Dynamic, INT, Store};
 use std::alloc::{AllocError, Global};

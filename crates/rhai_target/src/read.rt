@@ -3,11 +3,11 @@
 ghost use Rattle.std.specs.Prelude.{◌≡◌, ◌<◌, [], true, length, is_some, slice_get, option_and_then, option_map, IfOk, MatchOption, Some};
 ghost use Rattle.rhai_value.specs.End.{end, held_part};
 ghost use Rattle.rhai_value.specs.Parts.{int_of, text_of, blob_of};
-ghost use Rattle.rhai_target.specs.Bits.{bit as bit_in, field};
+ghost use Rattle.rhai_bits.specs.Bits.{bit as bit_in, field};
 ghost use Rattle.rhai_target.specs.Read.{slice_in};
 
-use crate::bits::{bit_of, field_of};
 use crate::slice::Slice;
+use rhai_bits::{bit_of, field_of};
 use rhai_text::ImmutableString;
 use rhai_value::{Blob, Dynamic, INT, Store};
 use std::alloc::{AllocError, Global};

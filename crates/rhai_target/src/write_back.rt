@@ -3,10 +3,10 @@
 ghost use Rattle.std.specs.Prelude.{◌≡◌, ◌<◌, [], true, false, codes, length, is_some, MatchOption, OnOk, OnErr};
 ghost use Rattle.rhai_value.specs.End.{end, end_name, held_part, value_after, store_after};
 ghost use Rattle.rhai_value.specs.Parts.{int_of, text_of, blob_of};
-ghost use Rattle.rhai_target.specs.Bits.{with_field as changed_field};
+ghost use Rattle.rhai_bits.specs.Bits.{with_field as changed_field};
 ghost use Rattle.rhai_target.specs.Change.{on_int, bit_change, field_change, byte_change, char_change, value_changed, store_changed, IsAnswer};
 
-use crate::bits::{with_bit, with_field};
+use rhai_bits::{with_bit, with_field};
 use rhai_text::{EvalAltResult, ImmutableString, Position};
 use rhai_value::{Blob, Dynamic, INT, InStore, Store};
 use std::alloc::Global;

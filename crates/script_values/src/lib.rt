@@ -19,7 +19,6 @@ mod find;
 mod held;
 mod in_place;
 mod int_functions;
-mod json;
 mod keys;
 mod map_functions;
 mod natives;

@@ -2,8 +2,8 @@
 
 use crate::argument_values::{Arguments, count, map, or_unit, text};
 use crate::faults::{FaultKind, check_size};
-use crate::json::to_json;
 use crate::resources::Means;
+use crate::ways::check_ways;
 use rhai_packs::maps;
 use rhai_text::SizeKind;
 use rhai_value::{Dynamic, Map, Store};
@@ -19,9 +19,8 @@ pub(crate) fn ask_map(
     arguments: &Arguments,
 ) -> Result<Option<Dynamic>, FaultKind> {
     match function {
-        Some(MapFunction::Ask(MapQuestion::ToJson)) => Ok(Some(to_json(means, store, held)?)),
         Some(MapFunction::Ask(question)) => {
-            Ok(Some(map_answer(question, means, store, entries, arguments)?))
+            Ok(Some(map_answer(question, means, store, held, entries, arguments)?))
         }
         Some(MapFunction::Change(_)) | None => Ok(None),
     }
@@ -31,6 +30,7 @@ fn map_answer(
     question: MapQuestion,
     means: &Means,
     store: &Store,
+    held: &Dynamic,
     entries: &Map,
     arguments: &Arguments,
 ) -> Result<Dynamic, FaultKind> {
@@ -49,9 +49,15 @@ fn map_answer(
             check_size(means.limits.items, entries.len(), SizeKind::Items)?;
             Ok(Dynamic::from_array(maps::keys(means.alloc, entries)?))
         }
-        MapQuestion::Values | MapQuestion::ToJson => {
+        MapQuestion::Values => {
             check_size(means.limits.items, entries.len(), SizeKind::Items)?;
             Ok(Dynamic::from_array(maps::values(means.alloc, entries)?))
+        }
+        MapQuestion::ToJson => {
+            check_ways(means, store, held)?;
+            let text = maps::to_json(means.alloc, store, entries)?;
+            check_size(means.limits.text, text.len(), SizeKind::Text)?;
+            Ok(Dynamic::from(text))
         }
     }
 }

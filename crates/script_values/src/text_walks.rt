@@ -55,7 +55,7 @@ fn question_cost(
                 .saturating_mul(6)
                 .saturating_add(parts)
         }
-        TextQuestion::SplitWords => values_cost(text.len()).saturating_add(words_cost(text)),
+        TextQuestion::SplitWords => values_cost(text.len()).saturating_add(words(text)),
         TextQuestion::ToUpper | TextQuestion::ToLower => {
             characters_cost(text).saturating_add(values_cost(text.len()))
         }
@@ -69,8 +69,8 @@ fn question_cost(
     }
 }
 
-/// Returns the cost of the parts of a text that are made: one operation each.
-fn words_cost(text: &ImmutableString) -> u64 {
+/// Returns how many words a text has; each costs one operation.
+pub(crate) fn words(text: &ImmutableString) -> u64 {
     let mut count = 0u64;
     for _ in text.as_str().split_whitespace() {
         count = count.saturating_add(1);
@@ -78,8 +78,8 @@ fn words_cost(text: &ImmutableString) -> u64 {
     count
 }
 
-/// As `words_cost`, for the parts between the occurrences of a separator, plus the cost of the
-/// separator.
+/// Returns the cost of the parts between the occurrences of a separator, one operation each, and
+/// that of the separator.
 fn separated_cost(text: &ImmutableString, separator: &Dynamic, store: &Store) -> u64 {
     let mut buffer = [0; 4];
     match text_or_character(separator, store, &mut buffer) {

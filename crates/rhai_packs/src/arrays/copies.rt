@@ -1,5 +1,5 @@
 //! Copies of items, and replacing items.
-ghost use Rattle.std.specs.Prelude.{◌≡◌, ◌++◌, length, map, replicate, is_ok, if◌then◌else◌, IfOk, IsOk};
+ghost use Rattle.std.specs.Prelude.{◌≡◌, ◌++◌, [], length, map, replicate, is_ok, if◌then◌else◌, IfOk, IsOk};
 ghost use Rattle.rhai_text.specs.declared.error.SizeKind.TheVariants as size;
 ghost use Rattle.rhai_value.specs.Tree.{copy};
 ghost use Rattle.rhai_packs.specs.Places.{after, first_of, missing as missing_of};
@@ -16,7 +16,8 @@ use std::alloc::{AllocError, Global};
 /// Cost: that of the copies.
 /// rhai: `extract`.
 pub fn extract(alloc: Global, items: &Array, index: INT, count: INT) -> Result<Array, AllocError>
-    ensures { IfOk result (λ part. part.items ≡ map copy (first_of (after items.now.items index) count)) }
+    ensures items { IfOk result (λ part. part.items ≡ map copy (first_of (after items.now.items index) count)) }
+    ensures free { first_of (after items.now.items index) count ≡ [] → IsOk result }
 {
     let start = cut_place(items.len(), index);
     let len = at_most(items.len() - start, count);
@@ -25,8 +26,12 @@ pub fn extract(alloc: Global, items: &Array, index: INT, count: INT) -> Result<A
 
 /// Copies of all items, with one allocation for the list.
 fn copies(alloc: Global, items: &[Dynamic]) -> Result<Array, AllocError>
-    ensures { IfOk result (λ made. made.items ≡ map copy items.now) }
+    ensures items { IfOk result (λ made. made.items ≡ map copy items.now) }
+    ensures free { items.now ≡ [] → IsOk result }
 {
+    if items.is_empty() {
+        return Ok(Vec::new(alloc));
+    }
     let mut made = Vec::with_capacity(alloc, items.len())?;
     for item in items {
         made.push_reserved(item.copy(alloc)?);

@@ -1,5 +1,5 @@
 //! Parts that are moved out of an array.
-ghost use Rattle.std.specs.Prelude.{◌≡◌, ◌≤◌, ◌++◌, ◌+◌, ◌-◌, length, take, drop, vec_capacity, vec_len, IfOk, OnErr, OnOk};
+ghost use Rattle.std.specs.Prelude.{◌≡◌, ◌≤◌, ◌++◌, ◌+◌, ◌-◌, [], length, take, drop, vec_capacity, vec_len, IfOk, IsOk, OnErr, OnOk};
 ghost use Rattle.rhai_packs.specs.Places.{after, first_of, without_part};
 
 use crate::places::{at_most, cut_place};
@@ -9,16 +9,20 @@ use std::mem;
 
 /// Removes up to `count` items from an index on, and returns them; an index before the front means
 /// the front.
-/// Errors: an allocation fails; the array is unchanged.
+/// Errors: an allocation fails, which there is none for no items; the array is unchanged.
 /// Cost: the number of items from the index on.
 /// rhai: `drain`.
 pub fn drain(alloc: Global, items: &mut Array, index: INT, count: INT) -> Result<Array, AllocError>
     ensures part { IfOk result (λ part. part.items ≡ first_of (after items.old.items index) count) }
     ensures left { OnOk result (items.new.items ≡ without_part items.old.items index count) }
     ensures err { OnErr result (items.new.items ≡ items.old.items) }
+    ensures free { first_of (after items.old.items index) count ≡ [] → IsOk result }
 {
     let start = cut_place(items.len(), index);
     let end = start + at_most(items.len() - start, count);
+    if start == end {
+        return Ok(Vec::new(alloc));
+    }
     let mut part = Vec::with_capacity(alloc, end - start)?;
     cut_out(items, start, end, &mut part);
     Ok(part)
@@ -32,6 +36,7 @@ pub fn retain(alloc: Global, items: &mut Array, index: INT, count: INT) -> Resul
     ensures others { IfOk result (λ others. others.items ≡ without_part items.old.items index count) }
     ensures left { OnOk result (items.new.items ≡ first_of (after items.old.items index) count) }
     ensures err { OnErr result (items.new.items ≡ items.old.items) }
+    ensures free { first_of (after items.old.items index) count ≡ [] → IsOk result }
 {
     let part = drain(alloc, items, index, count)?;
     Ok(mem::replace(items, part))

@@ -7,7 +7,7 @@ ghost use Rattle.rhai_packs.specs.Padding.{cycled};
 ghost use Rattle.rhai_packs.specs.Places.{missing as missing_of};
 ghost use Rattle.rhai_packs.specs.Sizes.{IsLimited, may_grow as may_grow_by};
 
-use super::{count as characters_in, len};
+use super::{count as characters_in, len, split_at_character};
 use crate::places::missing;
 use crate::sizes::{may_grow, too_large};
 use rhai_text::{EvalAltResult, ImmutableString, Limits, SizeKind};
@@ -145,16 +145,9 @@ fn padded(
     text.concat(alloc, more.as_str())
 }
 
-/// The first `count` characters.
 fn first_characters(text: &str, count: usize) -> &str
     ensures { result.now ≡ encode_utf8_all (take count (characters_of text.now)) }
 {
-    let mut rest = text.chars();
-    for _ in 0..count {
-        match rest.next() {
-            Some(_) => {}
-            None => return text,
-        }
-    }
-    text.split_at(text.len() - rest.as_str().len()).0
+    let (front, _) = split_at_character(text, count);
+    front
 }

@@ -1,5 +1,6 @@
 //! Calls succeed if allocations do; and their results for worked values.
 use super::readme::push_held;
+use rhai_cast::DynamicCast;
 use rhai_packs::{arrays, bits, blobs, chars, ints, maps, ranges, texts};
 use rhai_show::display_text;
 use rhai_text::{EvalAltResult, ImmutableString, Limits};
@@ -195,6 +196,112 @@ fn texts_are_split_at_separators(rt: HostRuntime) {
     assert!(rt; matches!(texts_are_split(rt.alloc()), Ok(true)));
 }
 
+fn texts_are_split_up_to(alloc: Global) -> Result<bool, EvalAltResult> {
+    let text = ImmutableString::from_str(alloc, "a,é,b")?;
+    let front = |parts| texts::split_at_most(alloc, &text, ",", parts);
+    let back = |parts| texts::split_rev_at_most(alloc, &text, ",", parts);
+    Ok(
+        prints(alloc, front(2)?, "[\"a\", \"é,b\"]")?
+            && prints(alloc, front(3)?, "[\"a\", \"é\", \"b\"]")?
+            && prints(alloc, front(9)?, "[\"a\", \"é\", \"b\"]")?
+            && prints(alloc, front(1)?, "[\"a,é,b\"]")?
+            && prints(alloc, front(-2)?, "[\"a,é,b\"]")?
+            && prints(alloc, back(2)?, "[\"b\", \"a,é\"]")?
+            && prints(alloc, back(0)?, "[\"a,é,b\"]")?
+            && prints(
+                alloc,
+                texts::split_rev(alloc, &text, ",")?,
+                "[\"b\", \"é\", \"a\"]",
+            )?,
+    )
+}
+
+#[test]
+fn texts_are_split_into_some_parts(rt: HostRuntime) {
+    assert!(rt; matches!(texts_are_split_up_to(rt.alloc()), Ok(true)));
+}
+
+fn texts_are_split_everywhere(alloc: Global) -> Result<bool, EvalAltResult> {
+    let text = ImmutableString::from_str(alloc, "aéb")?;
+    let front = |parts| texts::split_at_most(alloc, &text, "", parts);
+    let back = |parts| texts::split_rev_at_most(alloc, &text, "", parts);
+    let run = ImmutableString::from_str(alloc, "aaa")?;
+    let words = ImmutableString::from_str(alloc, "  a é\tb\n")?;
+    let none = ImmutableString::from_str(alloc, " ")?;
+    Ok(
+        prints(alloc, front(2)?, "[\"\", \"aéb\"]")?
+            && prints(alloc, front(4)?, "[\"\", \"a\", \"é\", \"b\"]")?
+            && prints(alloc, front(6)?, "[\"\", \"a\", \"é\", \"b\", \"\"]")?
+            && prints(alloc, back(3)?, "[\"\", \"b\", \"aé\"]")?
+            && prints(
+                alloc,
+                texts::split_rev(alloc, &text, "")?,
+                "[\"\", \"b\", \"é\", \"a\", \"\"]",
+            )?
+            && prints(alloc, texts::split(alloc, &run, "aa")?, "[\"\", \"a\"]")?
+            && prints(alloc, texts::split_rev(alloc, &run, "aa")?, "[\"\", \"a\"]")?
+            && prints(
+                alloc,
+                texts::split_words(alloc, &words)?,
+                "[\"a\", \"é\", \"b\"]",
+            )?
+            && texts::split_words(alloc, &none)?.is_empty(),
+    )
+}
+
+#[test]
+fn texts_are_split_into_characters_and_words(rt: HostRuntime) {
+    assert!(rt; matches!(texts_are_split_everywhere(rt.alloc()), Ok(true)));
+}
+
+/// A map with unit, an array and a map.
+fn nested_map(alloc: Global) -> Result<Map, EvalAltResult> {
+    let mut inside = Map::new(alloc);
+    maps::set(&mut inside, "c", Dynamic::from_text(alloc, "x")?)?;
+    let mut map = Map::new(alloc);
+    maps::set(&mut map, "a", Dynamic::UNIT)?;
+    maps::set(
+        &mut map,
+        "b",
+        Dynamic::from_array(array_of(alloc, &[1, 2])?),
+    )?;
+    maps::set(&mut map, "d", Dynamic::from_map(inside))?;
+    Ok(map)
+}
+
+/// Puts a holder of a map's own cell into the map.
+fn hold_itself(alloc: Global, store: &mut Store, held: &mut Dynamic) -> Result<(), EvalAltResult> {
+    held.share_in_place(store)?;
+    let again = held.copy(alloc)?;
+    if let Some(map) = held.write_lock::<Map>(store) {
+        maps::set(map, "me", again)?;
+    }
+    Ok(())
+}
+
+fn maps_are_json(alloc: Global) -> Result<bool, EvalAltResult> {
+    let mut store = Store::new(alloc);
+    let map = nested_map(alloc)?;
+    let plain = maps::to_json(alloc, &store, &map)?;
+    let mut held = Dynamic::from_map(map);
+    hold_itself(alloc, &mut store, &mut held)?;
+    let mut around = Map::new(alloc);
+    maps::set(&mut around, "\"", held.copy(alloc)?)?;
+    maps::set(&mut around, "m", held)?;
+    let shared = maps::to_json(alloc, &store, &around)?;
+    let inside = "{\"a\":null,\"b\":[1, 2],\"d\":{\"c\":\"x\"},\"me\":null}";
+    let wanted = format!(in alloc; "{{\"\\\"\":{inside},\"m\":{inside}}}")?;
+    Ok(
+        plain.as_str() == "{\"a\":null,\"b\":[1, 2],\"d\":{\"c\":\"x\"}}"
+            && shared.as_str() == wanted.as_str(),
+    )
+}
+
+#[test]
+fn maps_are_written_as_json(rt: HostRuntime) {
+    assert!(rt; matches!(maps_are_json(rt.alloc()), Ok(true)));
+}
+
 fn texts_are_padded(alloc: Global) -> Result<bool, EvalAltResult> {
     let mut text = ImmutableString::from_str(alloc, "x")?;
     texts::pad_with_string(alloc, &LIMITS, &mut text, 4, "ab")?;
@@ -327,10 +434,10 @@ fn items_are_moved_out_of_arrays(rt: HostRuntime) {
 
 fn parts_of_texts(alloc: Global) -> Result<bool, EvalAltResult> {
     let mut text = ImmutableString::from_str(alloc, "éaéb")?;
-    let found = texts::index_of_from(alloc, &text, "é", 1)? == Some(2)
-        && texts::index_of_from(alloc, &text, "é", -1)?.is_none()
-        && texts::index_of_from(alloc, &text, "é", -9)? == Some(0)
-        && texts::index_of_from(alloc, &text, "", 4)?.is_none();
+    let found = texts::index_of_from(&text, "é", 1) == Some(2)
+        && texts::index_of_from(&text, "é", -1).is_none()
+        && texts::index_of_from(&text, "é", -9) == Some(0)
+        && texts::index_of_from(&text, "", 4).is_none();
     texts::remove(alloc, &mut text, "é")?;
     let cases = chars::to_upper('é') == 'É' && chars::to_upper('ß') == 'ß';
     let lower = chars::to_lower('É') == 'é' && chars::to_int('é') == 233;

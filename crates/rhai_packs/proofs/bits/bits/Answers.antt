@@ -3,7 +3,7 @@ use Rattle.std.proofs.Math.Facts.{to_z-of_z}
 use Rattle.std.proofs.lemmas.Grind.{common_steps}
 use Rattle.std.proofs.lemmas.List.FromFn.{map-range_with_len_more}
 use Rattle.std.specs.List.{range_with_len}
-use Rattle.rhai_target.specs.Bits.{bit}
+use Rattle.rhai_bits.specs.Bits.{bit}
 use Rattle.rhai_value.specs.Tree.{bool, fresh}
 use Rattle.rhai_packs.proofs.bits.bits.Goals as goal
 

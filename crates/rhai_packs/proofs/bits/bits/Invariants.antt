@@ -1,6 +1,6 @@
 use Rattle.std.proofs.Common.{◌≡◌, ◌≤◌, map, vec_capacity, vec_len}
 use Rattle.std.specs.List.{range_with_len}
-use Rattle.rhai_target.specs.Bits.{bit}
+use Rattle.rhai_bits.specs.Bits.{bit}
 use Rattle.rhai_value.specs.Tree.{bool, fresh}
 use Rattle.rhai_packs.proofs.bits.bits.Given as goal
 

@@ -1,7 +1,7 @@
 use Rattle.std.proofs.Common.{[], option_map, ap, sym, ◌∙◌, rules, w64, FitsSigned}
 use Rattle.std.proofs.lemmas.Int.{to_z-of_z}
 use Rattle.rhai_value.specs.End.{end}
-use Rattle.rhai_target.specs.Bits.{with_field}
+use Rattle.rhai_bits.specs.Bits.{with_field}
 use Rattle.rhai_target.specs.Change.{on_int, value_changed, store_changed}
 use Rattle.rhai_target.proofs.write_back.write_field.Goals as goal
 

@@ -1,7 +1,7 @@
 use Rattle.std.proofs.Common.{◌∙◌, rules, w64, FitsSigned}
 use Rattle.std.proofs.Math.Facts.{to_z-of_z}
-use Rattle.rhai_target.proofs.IntBits.{field_read_is}
-use Rattle.rhai_target.proofs.bits.field_of.Goals as goal
+use Rattle.rhai_bits.proofs.IntBits.{field_read_is}
+use Rattle.rhai_bits.proofs.field_of.Goals as goal
 
 pub returns : goal.returns
 returns c =

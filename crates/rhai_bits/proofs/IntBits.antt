@@ -9,7 +9,7 @@ use Rattle.std.proofs.lemmas.Bool.{cases_lt, eqb-true, eqb-false, eq-eqb, ne_eqb
 use Rattle.std.proofs.lemmas.Int.{of_z-to_z, wrapping_mul_onto, int_wrap-mul_left}
 use Rattle.std.proofs.lemmas.Nat.{mod_below, pow_pos, pow_below, or_lt, and_le_l, and_le_r, div-add-mod'}
 use Rattle.std.proofs.lemmas.Nat.Bits.{bit_at-lt, bit_at_and, bit_at_or, bit_at_not, bit_at_set_same, bit_at_set_other, bit_at_clear_same, bit_at_clear_other, bit_at_cat_low, bit_at_cat_high, bit_at-zero, bit_at_above, same_from_bits_below}
-use Rattle.rhai_target.specs.Bits.{bit, digit, natural, int_of_bits, with_bit, with_field, field}
+use Rattle.rhai_bits.specs.Bits.{bit, digit, natural, int_of_bits, with_bit, with_field, field}
 
 digit_below : (b : Bool) → digit b < 2
 digit_below true = omega arith

@@ -1,8 +1,11 @@
-//! The 64 bits of an int.
-ghost use Rattle.std.specs.Prelude.{◌≡◌, ◌<◌};
-ghost use Rattle.rhai_target.specs.Bits as specs;
+//! The 64 bits of a script's int.
+#![tactic(auto)]
 
-use rhai_value::INT;
+ghost use Rattle.std.specs.Prelude.{◌≡◌, ◌<◌};
+ghost use Rattle.rhai_bits.specs.Bits as specs;
+
+/// An int of a script.
+pub type INT = i64;
 
 /// Returns the number with bit `place` set, or cleared.
 /// Cost: constant.

@@ -2,7 +2,7 @@
 use Rattle.std.proofs.Common.{◌≡◌, ◌++◌, ◌∷◌, [], ℕ, List, ℤ, Bool, true, false, Option, Some, None, IfSome, is_some, drop, reverse, codes, refl, sym, ap, ◌∙◌, subst, append_assoc}
 use Rattle.std.proofs.lemmas.List.{reverse-append}
 use Rattle.std.specs.Str.{chars}
-use Rattle.std.specs.List.{join_by, flat_map}
+use Rattle.std.specs.List.{flat_map}
 use Rattle.rhai_text.specs.Quote.{quoted_text}
 use Rattle.rhai_value.specs.declared.cells.store.Cell.{Cell}
 use Rattle.rhai_value.specs.End.{end, held_in}

@@ -1,10 +1,9 @@
 -- Padding texts to a number of characters.
-use Rattle.std.proofs.Common.{◌≡◌, ℕ, zero, suc, ◌+◌, ◌*◌, ◌-◌, ◌/◌, ◌%◌, ◌<◌, ◌≤◌, List, [], ◌∷◌, ◌++◌, length, take, drop, replicate, refl, sym, ap, subst, ◌∙◌, append_assoc, arith, length-append, length-drop}
-use Rattle.std.proofs.lemmas.List.{append-nil, take-append-drop, take_all, drop-drop, take_at}
-use Rattle.std.proofs.lemmas.Str.{chars-append, chars_from_encodes, cons_from_encodes, chars-nil, encodes-append, encodes-chars, length-le-encodes, IsCharBoundary-at_seam}
-use Rattle.std.specs.Char.{encode_utf8}
+use Rattle.std.proofs.Common.{◌≡◌, ℕ, zero, suc, ◌+◌, ◌*◌, ◌/◌, ◌%◌, ◌<◌, List, [], ◌∷◌, ◌++◌, length, take, replicate, refl, sym, ap, ◌∙◌, append_assoc, arith, length-append}
+use Rattle.std.proofs.lemmas.List.{append-nil}
+use Rattle.std.proofs.lemmas.Str.{chars-append, chars_from_encodes, chars-nil, encodes-append, encodes-chars}
 use Rattle.std.specs.List.{repeat}
-use Rattle.std.specs.Str.{chars, encode_utf8_all, IsCharBoundary, IsUtf8}
+use Rattle.std.specs.Str.{chars, encode_utf8_all, IsUtf8}
 use Rattle.rhai_packs.specs.Padding.{cycled}
 
 -- the characters of a text repeated before another

@@ -1,10 +1,9 @@
 -- Texts cut at a separator.
-use Rattle.std.proofs.Common.{◌≡◌, ◌<◌, ◌≤◌, ◌-◌, length, length-drop, take, drop, reverse, if◌then◌else◌, arith, Bool, false, true, ℕ, Option, Some, List, [], ◌∷◌, ◌++◌, None, inl, inr, refl, sym, subst, append_assoc, ap, ◌∙◌, map}
+use Rattle.std.proofs.Common.{◌≡◌, ◌<◌, ◌≤◌, ◌-◌, length, length-drop, take, drop, reverse, if◌then◌else◌, arith, false, true, ℕ, Option, List, [], ◌∷◌, ◌++◌, inr, refl, sym, subst, append_assoc, ap, ◌∙◌, map}
 use Rattle.std.proofs.lemmas.List.{length-reverse, map-append, reverse-append, reverse-reverse, take-append-drop, take_at}
 use Rattle.std.proofs.lemmas.Str.{IsUtf8-append, IsUtf8-drop, IsUtf8-take, IsCharBoundary-from_drop}
 use Rattle.std.specs.Char.{is_whitespace, is_not_whitespace}
 use Rattle.std.specs.Str.{chars, EmptyOrStartsWithPassing, IsCharBoundary, IsUtf8, NoCharPasses}
-use Rattle.std.specs.Str.Pattern.{FindsText, SplitsAroundMatch}
 use Rattle.rhai_value.specs.Tree.{Tree}
 use Rattle.rhai_packs.specs.Splits.{AreCutOff, AreParts, AreTextsOf, AreWords, IsCutOff, cut_everywhere, is_spent, one_less, read_from, single_count, singled}
 use Rattle.rhai_packs.specs.declared.texts.cuts.Side.{Side}

@@ -48,7 +48,7 @@ fn text_answer(
             Ok(Dynamic::from_bool(texts::ends_with(held, text(first, store)?)))
         }
         TextQuestion::IndexOf => place_of_part(store, held, first),
-        TextQuestion::IndexOfFrom => place_of_part_from(means, store, held, first, second),
+        TextQuestion::IndexOfFrom => place_of_part_from(store, held, first, second),
         TextQuestion::SubString => sub_string_from(means, store, held, first),
         TextQuestion::SubStringSome => {
             let (index, length) = (int(first, store)?, int(second, store)?);
@@ -101,7 +101,6 @@ fn place_of_part(
 
 /// Returns the index of the first occurrence of a part in a text, from a character on.
 fn place_of_part_from(
-    means: &Means,
     store: &Store,
     held: &ImmutableString,
     part: &Dynamic,
@@ -110,7 +109,7 @@ fn place_of_part_from(
     let mut buffer = [0; 4];
     let part = text_or_character(part, store, &mut buffer)?;
     let start = int(start, store)?;
-    Ok(place_or_none(texts::index_of_from(means.alloc, held, part, start)?))
+    Ok(place_or_none(texts::index_of_from(held, part, start)))
 }
 
 fn parse_int(held: &ImmutableString, radix: INT) -> Result<Dynamic, FaultKind> {

@@ -1,10 +1,11 @@
 -- What a host sees of an engine: cells and kept functions are the run's while there is one, and
 -- otherwise those of the scope.
-use Rattle.std.specs.Prelude.{◌≡◌, if◌then◌else◌, Bool, List, Option}
+use Rattle.std.specs.Prelude.{◌≡◌, if◌then◌else◌, Bool, List, Option, Some, None}
 use Rattle.rhai_value.specs.declared.cells.store.Cell.{Cell}
 use Rattle.rhai_value.specs.Tree.{Tree}
+use Rattle.script_code.specs.declared.program.Program.{Program}
 use Rattle.script_run.specs.Variables.{Variables, with_kept}
-use Rattle.script_run.specs.Runs.{cells_of, functions_of, with_functions, with_notes, SameButDebugs, SameButPrinted}
+use Rattle.script_run.specs.Runs.{cells_of, functions_of, names_before, with_functions, with_notes, SameButDebugs, SameButPrinted}
 use Rattle.script_engine.specs.declared.engine.Engine.{Engine}
 
 -- whether there is a run, which owns the variables
@@ -18,6 +19,14 @@ value_of e = e.value
 -- the variables; there are none while a run owns them
 abbrev pub scope_of : Engine → Variables
 scope_of e = e.scope
+
+-- there is a script, and it was compiled for variables of these names
+abbrev pub Suits : Option Program → Variables → Type 0
+Suits None v = ⊥
+Suits (Some p) v = names_before p ≡ v.names
+
+abbrev pub SuitsScope : Engine → Type 0
+SuitsScope e = Suits e.program e.scope
 
 -- the engine with other variables
 abbrev pub with_scope : Engine → Variables → Engine

@@ -14,7 +14,8 @@ use rhai_text::{Limits, Position};
 use rhai_value::{Dynamic, INT};
 use script_code::HostName;
 use script_engine::{Engine, Step};
-use script_run::{Run, RunLimits, ScriptError};
+use script_run::{Run, ScriptError};
+use script_slots::RunLimits;
 use script_syntax::SyntaxError;
 use std::alloc::{AllocError, Global};
 

@@ -1,11 +1,9 @@
 //! Functions on values of any type. None changes its value.
 
-use crate::faults::{FaultKind, check_size};
-use crate::resources::Means;
-use crate::ways::check_ways;
 use rhai_show::{debug_text, display_text};
 use rhai_text::SizeKind;
 use rhai_value::{Dynamic, Store, TypeId};
+use script_faults::{FaultKind, Means, check_size, check_ways, type_name_of};
 use script_natives::AnyFunction;
 
 /// Calls a function that reads a value of any type.
@@ -31,19 +29,5 @@ pub(crate) fn ask_any(
             check_size(means.limits.text, text.len(), SizeKind::Text)?;
             Ok(Dynamic::from_text(alloc, text.as_str())?)
         }
-    }
-}
-
-/// Returns the name of the held type, as scripts see it: those of ranges are short.
-/// Cost: that of `Dynamic::held`; no memory.
-/// rhai: `type_of`.
-pub fn type_name_of(value: &Dynamic, store: &Store) -> &'static str {
-    let held = value.type_id(store);
-    if held == TypeId::ExclusiveRange {
-        "range"
-    } else if held == TypeId::InclusiveRange {
-        "range="
-    } else {
-        held.name()
     }
 }

@@ -1,7 +1,7 @@
 //! The arguments of a function, after its receiver.
 
-use crate::faults::{FaultKind, mismatch};
 use rhai_value::{Array, Blob, Dynamic, INT, Map, Part, Store};
+use script_faults::{FaultKind, mismatch};
 
 /// Up to three arguments; missing ones are unit.
 #[derive(Drop)]

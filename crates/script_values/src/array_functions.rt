@@ -3,14 +3,11 @@
 use crate::argument_values::{Arguments, array, count, int, or_unit, place_or_none};
 use crate::array_parts::part_out;
 use crate::bounds::{bounds_of, span_of};
-use crate::cost::cost_of;
-use crate::faults::{FaultKind, check_size};
-use crate::resources::Means;
 use crate::walks::span_at;
-use crate::ways::{check_all_ways, check_ways};
 use rhai_packs::arrays;
 use rhai_text::SizeKind;
 use rhai_value::{Array, Dynamic, INT, Store};
+use script_faults::{FaultKind, Means, check_all_ways, check_size, check_ways, cost_of};
 use script_natives::{ArrayChange, ArrayFunction, ArrayQuestion};
 
 /// Calls a function that doesn't change an array, if it is one.

@@ -2,10 +2,9 @@
 
 use crate::argument_values::{Arguments, int, mismatched_range};
 use crate::bounds::{bounds_of, piece_of};
-use crate::faults::FaultKind;
-use crate::resources::Means;
 use rhai_packs::arrays;
 use rhai_value::{Array, Dynamic, INT, Store};
+use script_faults::{FaultKind, Means};
 use script_natives::ArrayChange;
 
 /// Returns where a part begins, and how many items it has: those of a range, or a number of them

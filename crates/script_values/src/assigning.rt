@@ -5,14 +5,13 @@ ghost use Rattle.rhai_ops.specs.Effects.{first_left, effect};
 ghost use Rattle.rhai_ops.specs.Results.{outcome};
 
 use crate::binary_operators::binary;
-use crate::faults::{FaultKind, in_use};
 use crate::map_functions::check_entries;
-use crate::resources::Means;
 use rhai_ops::get_builtin_op_assignment_fn;
 use rhai_ops::laws::rows_suit;
 use rhai_packs::maps;
 use rhai_text::Token;
 use rhai_value::{Dynamic, Map, Part, Store};
+use script_faults::{FaultKind, Means, in_use};
 
 /// An assigning operator, and the operator that it applies: `+=` and `+`.
 #[derive(Clone, Copy)]

@@ -4,16 +4,14 @@ ghost use Rattle.rhai_ops.specs.Outcome.{answers};
 ghost use Rattle.rhai_ops.specs.Results.{outcome};
 ghost use Rattle.rhai_ops.specs.Table.{row_of};
 
-use crate::faults::{FaultKind, check_size, in_use};
 use crate::map_functions::check_entries;
-use crate::resources::Means;
-use crate::ways::check_ways;
 use rhai_ops::get_builtin_binary_op_fn;
 use rhai_ops::laws::{operators_write_nothing, rows_suit};
 use rhai_packs::maps;
 use rhai_show::{display_text, same_value};
 use rhai_text::{ImmutableString, SizeKind, Token};
 use rhai_value::{Array, Dynamic, Map, Store};
+use script_faults::{FaultKind, Means, check_size, check_ways, in_use};
 
 /// Applies an operator to two values, which are only read. The built-in operators come first. If
 /// they have no row, `+` appends to a text the printed form of any value, or prepends it; arrays

@@ -2,9 +2,9 @@
 
 use crate::argument_values::mismatched_range;
 use crate::bounds::{bounds_of, field_of};
-use crate::faults::FaultKind;
 use rhai_packs::bits;
 use rhai_value::{Dynamic, INT, Store};
+use script_faults::FaultKind;
 
 /// Returns whether a bit is set.
 pub(crate) fn is_bit_set(number: INT, bit: INT) -> Result<bool, FaultKind> {

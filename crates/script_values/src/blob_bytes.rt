@@ -2,10 +2,10 @@
 
 use crate::argument_values::{Arguments, int, text};
 use crate::bounds::{bounds_of, piece_of};
-use crate::faults::FaultKind;
 use crate::walks::span_at;
 use rhai_packs::blobs;
 use rhai_value::{Blob, Dynamic, INT, Store};
+use script_faults::FaultKind;
 use script_natives::ByteOrder;
 
 /// The part of a blob that the arguments select, and the argument after them.

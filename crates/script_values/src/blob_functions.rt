@@ -3,11 +3,10 @@
 use crate::argument_values::{Arguments, blob, count, int, text_or_character};
 use crate::blob_bytes::{int_in, put_int_in, put_text_in};
 use crate::bounds::{bounds_of, span_of};
-use crate::faults::{FaultKind, check_size};
-use crate::resources::Means;
 use rhai_packs::blobs;
 use rhai_text::SizeKind;
 use rhai_value::{Blob, Dynamic, INT, Store};
+use script_faults::{FaultKind, Means, check_size};
 use script_natives::{BlobChange, BlobFunction, BlobQuestion};
 
 /// Calls a function that doesn't change a blob, if it is one.

@@ -1,10 +1,10 @@
 //! Ranges as parts of texts and ints.
 ghost use Rattle.std.specs.Prelude.{◌<◌, ◌≤◌};
 
-use crate::faults::FaultKind;
 use rhai_packs::bits;
 use rhai_target::Slice;
 use rhai_value::{Dynamic, ExclusiveRange, INT, InclusiveRange, Store};
+use script_faults::FaultKind;
 
 /// Both ends of a range.
 #[derive(Clone, Copy)]

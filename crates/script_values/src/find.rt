@@ -3,13 +3,11 @@ ghost use Rattle.std.specs.Prelude.{IfOk};
 ghost use Rattle.rhai_target.specs.Part.{HasPlace};
 
 use crate::bounds::{bits_of, bounds_of, slice_of};
-use crate::faults::{FaultKind, in_use, mismatch};
-use crate::keys::{Key, index_in, name_in};
 use crate::properties::property;
-use crate::resources::Means;
 use rhai_packs::arrays;
 use rhai_target::{NoPart, ReadPart};
 use rhai_value::{Array, Dynamic, INT, Map, Store, Union};
+use script_faults::{FaultKind, Key, Means, in_use, index_in, mismatch, name_in};
 
 /// The result of a look-up by a key.
 #[derive(Drop)]

@@ -2,11 +2,10 @@
 
 use crate::argument_values::{Arguments, boolean, int};
 use crate::bit_functions::{bits_from, bits_in, is_bit_set, replace_bits, replace_range, set_bit};
-use crate::faults::{FaultKind, check_size};
-use crate::resources::Means;
 use rhai_packs::{bits, blobs, ints, ranges};
 use rhai_text::{ImmutableString, SizeKind};
 use rhai_value::{Dynamic, INT, Store};
+use script_faults::{FaultKind, Means, check_size};
 use script_natives::{IntChange, IntFunction, IntQuestion};
 
 /// Calls a function that doesn't change an int, if it is one.

@@ -1,12 +1,10 @@
 //! Functions on maps.
 
 use crate::argument_values::{Arguments, count, map, or_unit, text};
-use crate::faults::{FaultKind, check_size};
-use crate::resources::Means;
-use crate::ways::check_ways;
 use rhai_packs::maps;
 use rhai_text::SizeKind;
 use rhai_value::{Dynamic, Map, Store};
+use script_faults::{FaultKind, Means, check_size, check_ways};
 use script_natives::{MapChange, MapFunction, MapQuestion};
 
 /// Calls a function that doesn't change a map, if it is one.

@@ -5,14 +5,13 @@ use crate::argument_values::Arguments;
 use crate::array_functions::{ask_array, change_array};
 use crate::blob_functions::{ask_blob, change_blob};
 use crate::char_functions::{ask_char, change_char};
-use crate::faults::FaultKind;
 use crate::int_functions::{ask_int, change_int_by};
 use crate::map_functions::{ask_map, change_map};
 use crate::range_functions::{ask_pointer, ask_range};
-use crate::resources::Means;
 use crate::text_functions::ask_text;
 use crate::text_parts::change_text;
 use rhai_value::{Dynamic, Part, Store, Union};
+use script_faults::{FaultKind, Means};
 use script_natives::{
     ArrayFunction, BlobFunction, CharFunction, IntFunction, MapFunction, Native, TextFunction,
     array_function, blob_function, char_function, int_function, map_function, pointer_function,

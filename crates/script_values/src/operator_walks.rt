@@ -1,12 +1,12 @@
 //! The cost of operators, in operations.
 
 use crate::assigning::Assignment;
-use crate::cost::{bytes_cost, copy_cost, entries_cost, has_parts, values_cost};
-use crate::faults::FaultKind;
-use crate::resources::Means;
-use crate::ways::{print_cost, walk_cost};
 use rhai_text::Token;
 use rhai_value::{Dynamic, Store, Union};
+use script_faults::{
+    FaultKind, Means, bytes_cost, copy_cost, entries_cost, has_parts, print_cost, values_cost,
+    walk_cost,
+};
 
 /// Counts the operations that an operator costs in addition to itself: nothing for ints and other
 /// small values; for a value that is joined with a text, the cost of printing it; for what is

@@ -1,16 +1,12 @@
 //! The cost of reads and writes at places inside values, in operations.
 
-use crate::cost::{characters_cost, copy_cost};
-use crate::faults::FaultKind;
 use crate::find::{Found, find};
-use crate::keys::Key;
 use crate::operator_walks::assign_cost;
 use crate::properties::property_cost;
-use crate::resources::Means;
 use crate::walks::key_cost;
-use crate::ways::walk_cost;
 use crate::writing::Change;
 use rhai_value::{Dynamic, Store, Union};
+use script_faults::{FaultKind, Key, Means, characters_cost, copy_cost, walk_cost};
 
 /// How far keys lead through arrays and maps.
 #[derive(Clone, Copy)]

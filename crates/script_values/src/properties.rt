@@ -1,12 +1,10 @@
 //! Properties of values other than maps: functions without arguments, read like fields.
 
 use crate::argument_values::Arguments;
-use crate::cost::values_cost;
-use crate::faults::FaultKind;
 use crate::natives::{ask_held, without_arguments};
-use crate::resources::Means;
 use crate::walks::native_cost;
 use rhai_value::{Dynamic, Store, Union};
+use script_faults::{FaultKind, Means, values_cost};
 
 /// Whether a function of this name is a property, too.
 fn is_property(name: &str) -> bool {

@@ -2,10 +2,9 @@
 
 use crate::argument_values::{Arguments, int};
 use crate::bounds::bounds_of;
-use crate::faults::FaultKind;
-use crate::resources::Means;
 use rhai_packs::ranges;
 use rhai_value::{Dynamic, ExclusiveRange, FnPtr, INT, InclusiveRange, Store};
+use script_faults::{FaultKind, Means};
 use script_natives::{PointerFunction, RangeFunction};
 
 /// The prefix of an anonymous function's name.

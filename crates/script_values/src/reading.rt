@@ -1,10 +1,8 @@
 //! Reading at a place inside a value.
 
-use crate::faults::FaultKind;
 use crate::find::{Found, find};
-use crate::keys::Key;
-use crate::resources::Means;
 use rhai_value::{Dynamic, Store};
+use script_faults::{FaultKind, Key, Means};
 
 /// What went wrong on the path to a place, and at which key: the number of keys before it.
 #[derive(Drop)]

@@ -2,9 +2,9 @@
 
 use crate::argument_values::Arguments;
 use crate::blob_bytes::bytes_meant;
-use crate::cost::{bytes_cost, values_cost};
 use crate::walks::{Counting, span_between, span_from};
 use rhai_value::{Blob, Dynamic, FnPtr, INT};
+use script_faults::{bytes_cost, values_cost};
 use script_natives::{
     BlobChange, BlobFunction, BlobQuestion, CharChange, CharFunction, CharQuestion, IntChange,
     IntFunction, IntQuestion, PointerFunction,

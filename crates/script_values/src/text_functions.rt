@@ -1,14 +1,13 @@
 //! Functions on texts.
 
 use crate::argument_values::{Arguments, count, int, place_or_none, text, text_or_character};
-use crate::faults::{FaultKind, check_size};
-use crate::resources::Means;
 use crate::text_parts::{sub_string, sub_string_from};
 use crate::text_splits::{split, split_at_most, split_back, split_back_at_most, split_words};
 use rhai_packs::ints::ParseRadixError;
 use rhai_packs::{ints, texts};
 use rhai_text::{ImmutableString, SizeKind};
 use rhai_value::{Dynamic, FnPtr, INT, Store};
+use script_faults::{FaultKind, Means, check_size};
 use script_natives::{TextFunction, TextQuestion};
 
 /// Calls a function that doesn't change a text, if it is one.

@@ -2,12 +2,11 @@
 
 use crate::argument_values::{Arguments, int, text, text_or_character};
 use crate::bounds::{bounds_of, piece_of};
-use crate::faults::{FaultKind, check_size};
-use crate::resources::Means;
 use crate::text_walks::occurrences;
 use rhai_packs::texts;
 use rhai_text::{ImmutableString, SizeKind};
 use rhai_value::{Dynamic, INT, Store};
+use script_faults::{FaultKind, Means, check_size};
 use script_natives::TextChange;
 
 /// Returns this many characters from an index on.

@@ -1,12 +1,11 @@
 //! The parts of texts between separators.
 
 use crate::argument_values::{int, text_or_character};
-use crate::faults::{FaultKind, check_size};
-use crate::resources::Means;
 use crate::text_walks::{occurrences, words};
 use rhai_packs::texts;
 use rhai_text::{ImmutableString, SizeKind};
 use rhai_value::{Dynamic, Store};
+use script_faults::{FaultKind, Means, check_size};
 
 /// Splits a text at an index, or between the occurrences of a character or of a text.
 pub(crate) fn split(

@@ -1,11 +1,10 @@
 //! The cost of functions on texts, in operations.
 
 use crate::argument_values::{Arguments, text_or_character};
-use crate::cost::{bytes_cost, characters_cost, operations_of_bytes, values_cost};
-use crate::faults::FaultKind;
 use crate::walks::{Counting, key_cost, missing};
 use rhai_text::ImmutableString;
 use rhai_value::{Dynamic, Store};
+use script_faults::{FaultKind, bytes_cost, characters_cost, operations_of_bytes, values_cost};
 use script_natives::{TextChange, TextFunction, TextQuestion};
 
 pub(crate) fn text_cost(

@@ -1,8 +1,8 @@
 //! Unary operators.
 
-use crate::faults::{FaultKind, mismatch};
 use rhai_text::{ArithmeticFault, EvalAltResult, Position};
 use rhai_value::{Dynamic, Store};
+use script_faults::{FaultKind, mismatch};
 
 /// A unary operator.
 #[derive(Clone, Copy, Debug, PartialEq, Eq)]

@@ -2,13 +2,13 @@
 
 use crate::argument_values::Arguments;
 use crate::bounds::{bounds_of, piece_of, span_of};
-use crate::cost::{bytes_cost, copies_cost, copy_cost, entries_cost, operations_of, values_cost};
-use crate::faults::FaultKind;
-use crate::resources::Means;
 use crate::small_walks::{blob_cost, char_cost, int_cost, pointer_cost};
 use crate::text_walks::text_cost;
-use crate::ways::{print_cost, walk_cost, walks_cost};
 use rhai_value::{Array, Dynamic, INT, Map, Store, Union};
+use script_faults::{
+    FaultKind, Means, bytes_cost, copies_cost, copy_cost, entries_cost, operations_of, print_cost,
+    values_cost, walk_cost, walks_cost,
+};
 use script_natives::{
     AnyFunction, ArrayChange, ArrayFunction, ArrayQuestion, MapChange, MapFunction, MapQuestion,
     Native,

@@ -3,17 +3,15 @@
 use crate::argument_values::Arguments;
 use crate::assigning::{Assignment, assign};
 use crate::binary_operators::binary;
-use crate::faults::{FaultKind, check_size, in_use, mismatch};
 use crate::find::part_at;
-use crate::keys::{Key, index_in, name_in};
 use crate::map_functions::check_entry;
 use crate::natives::change_native;
 use crate::reading::PlaceFault;
-use crate::resources::Means;
 use rhai_packs::maps;
 use rhai_target::{ReadPart, calc_index};
 use rhai_text::{ImmutableString, Position, SizeKind};
 use rhai_value::{Array, Dynamic, INT, Map, Part, PlaceError, PlaceErrorKind, Step, Store, Union};
+use script_faults::{FaultKind, Key, Means, check_size, in_use, index_in, mismatch, name_in};
 use script_natives::Native;
 
 /// What is written at a place.

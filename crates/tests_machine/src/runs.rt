@@ -3,9 +3,10 @@
 use rhai_text::Limits;
 use rhai_value::INT;
 use script_code::{HostName, Program, compile};
-use script_run::{Outcome, Run, RunLimits};
+use script_faults::Fault;
+use script_run::{Outcome, Run};
+use script_slots::RunLimits;
 use script_syntax::parse;
-use script_values::Fault;
 use std::alloc::{AllocError, Global};
 
 /// What each run may use.

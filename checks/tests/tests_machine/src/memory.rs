@@ -2,8 +2,9 @@
 
 use crate::runs::{LIMITS, compiled, driven, is_told, value_of};
 use rhai_value::INT;
-use script_run::{Outcome, Run, RunLimits};
-use script_values::FaultKind;
+use script_faults::FaultKind;
+use script_run::{Outcome, Run};
+use script_slots::RunLimits;
 use std::alloc::Global;
 
 /// Makes the limits of a run that may hold this many bytes.

@@ -2,8 +2,9 @@
 
 use crate::runs::compiled;
 use rhai_text::{EvalAltResult, Limits, SizeKind};
-use script_run::{Outcome, Run, RunLimits};
-use script_values::FaultKind;
+use script_faults::FaultKind;
+use script_run::{Outcome, Run};
+use script_slots::RunLimits;
 use std::alloc::Global;
 
 /// Texts of ten bytes, arrays of five items, maps of five entries.

@@ -1,11 +1,12 @@
 -- What a host sees of an engine: cells and kept functions are the run's while there is one, and
 -- otherwise those of the scope.
-use Rattle.std.specs.Prelude.{◌≡◌, if◌then◌else◌, Bool, List, Option, Some, None}
+use Rattle.std.specs.Prelude.{◌≡◌, ℕ, if◌then◌else◌, Bool, List, Option, Some, None, option_and_then}
 use Rattle.rhai_value.specs.declared.cells.store.Cell.{Cell}
 use Rattle.rhai_value.specs.Tree.{Tree}
 use Rattle.script_code.specs.declared.program.Program.{Program}
 use Rattle.script_run.specs.Variables.{Variables, with_kept}
-use Rattle.script_run.specs.Runs.{cells_of, functions_of, names_before, with_functions, with_notes, SameButDebugs, SameButPrinted}
+use Rattle.script_run.specs.Kept.{held_pointer}
+use Rattle.script_run.specs.Runs.{argument_of, cells_of, functions_of, names_before, with_functions, with_notes, SameButDebugs, SameButPrinted}
 use Rattle.script_engine.specs.declared.engine.Engine.{Engine}
 
 -- whether there is a run, which owns the variables
@@ -41,6 +42,13 @@ kept_in e = if e.is_running then functions_of e.run else e.scope.kept
 -- the engine with other kept functions
 abbrev pub with_kept_in : List (Option Tree) → Engine → Engine
 with_kept_in fs e = if e.is_running then record e { run = with_functions fs e.run } else record e { scope = with_kept fs e.scope }
+
+-- the function that is an argument of the host function being called, and the one that is the value of the run
+abbrev pub argument_pointer : Engine → ℕ → Option Tree
+argument_pointer e n = if e.is_running then option_and_then (held_pointer (cells_of e.run)) (argument_of e.run n) else None
+
+abbrev pub value_pointer : Engine → Option Tree
+value_pointer e = if e.is_running then held_pointer (cells_of e.run) e.value else None
 
 -- the engine f differs from e at most in what its run printed
 abbrev pub OnlyPrints : Engine → Engine → Type 0

@@ -6,7 +6,7 @@ use Rattle.rhai_value.specs.Tree.{Tree}
 use Rattle.script_code.specs.declared.program.Program.{Program}
 use Rattle.script_run.specs.Variables.{Variables, with_kept}
 use Rattle.script_run.specs.Kept.{held_pointer}
-use Rattle.script_run.specs.Runs.{argument_of, cells_of, functions_of, names_before, with_functions, with_notes, SameButDebugs, SameButPrinted}
+use Rattle.script_run.specs.Runs.{argument_of, cells_of, functions_of, names_before, with_functions, with_notes, with_stops, SameButDebugs, SameButPrinted}
 use Rattle.script_engine.specs.declared.engine.Engine.{Engine}
 
 -- whether there is a run, which owns the variables
@@ -57,6 +57,10 @@ OnlyPrints e f = (f ≡ record e { run = f.run }) × SameButPrinted e.run f.run
 -- the engine whose run, or next one, notes lines of `debug`, or doesn't
 abbrev pub with_noting : Bool → Engine → Engine
 with_noting b e = record e { run = with_notes b e.run }
+
+-- the engine whose run, if there is one, stops at statements, or doesn't
+abbrev pub with_stops_in : Bool → Engine → Engine
+with_stops_in b e = if e.is_running then record e { run = with_stops b e.run } else e
 
 -- the engine f differs from e at most in the notes on lines of `debug`
 abbrev pub OnlyForgets : Engine → Engine → Type 0

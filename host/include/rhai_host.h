@@ -389,10 +389,10 @@ uint32_t rhai_host_script_call(
     size_t arguments_len);
 
 /* Starts a run as `rhai_host_script_begin` does, of a script that has no statements outside functions, calls one
- * of its functions as `rhai_host_script_call` does, and continues for at most this many operations. A run that
- * is done has ended, if the stop reports its value. NO_COMMAND means that there is no run: the script has such
- * statements, or no such function, or no operation is left for the function, or it is not a script for these
- * variables. */
+ * of its functions as `rhai_host_script_call` does, and continues for at most this many operations. NO_COMMAND
+ * means that there is no run: the script has such statements, or no such function, or no operation is left for
+ * the function, or it is not a script for these variables. A run of the script that is done is started again,
+ * and keeps the variables until `rhai_host_script_end`. */
 uint32_t rhai_host_script_call_at_once(
     RhaiHostHandle *handle,
     size_t text,
@@ -403,6 +403,23 @@ uint32_t rhai_host_script_call_at_once(
     size_t name_len,
     const uint8_t *arguments,
     size_t arguments_len,
+    uint64_t operations,
+    RhaiHostScriptStop *stop);
+
+/* As `rhai_host_script_call_at_once`, with at most six arguments in numbers: each is unit (kind 0), a boolean
+ * (1, true unless the number is 0) or an int (2, the number has its bits). */
+uint32_t rhai_host_script_call_numbers(
+    RhaiHostHandle *handle,
+    size_t text,
+    size_t items,
+    size_t entries,
+    size_t calls,
+    const uint8_t *name,
+    size_t name_len,
+    const uint8_t *kinds,
+    size_t kinds_len,
+    const size_t *numbers,
+    size_t numbers_len,
     uint64_t operations,
     RhaiHostScriptStop *stop);
 
@@ -900,9 +917,9 @@ uint32_t rhai_host_variable_name(RhaiHostHandle *handle, size_t number, RhaiHost
 uint32_t rhai_host_variable_value(RhaiHostHandle *handle, size_t number, RhaiHostTold *told);
 
 /* Does nothing: its name is a sum of all that is exported, so that a host of other declarations doesn't link. */
-void rhai_host_stamp_ba0687403f83718c(void);
+void rhai_host_stamp_3b4407ede9898e77(void);
 
-#define RHAI_HOST_STAMP rhai_host_stamp_ba0687403f83718c
+#define RHAI_HOST_STAMP rhai_host_stamp_3b4407ede9898e77
 
 #undef RHAI_HOST_ASSERT
 #undef RHAI_HOST_ALIGN

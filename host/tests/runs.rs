@@ -1,7 +1,7 @@
 //! Runs in pieces.
 mod common;
 
-use rhai_world::{Array, Engine, EvalError, Progress, Run, Saved, Scope, Value};
+use rhai_world::{Array, Engine, EvalError, Function, Progress, Run, Saved, Scope, Value};
 use std::panic::{catch_unwind, AssertUnwindSafe};
 use std::sync::{Arc, Mutex};
 
@@ -399,5 +399,62 @@ fn a_function_called_at_once_uses_what_the_scope_has() -> Result<(), EvalError> 
     let grows = other.compile("fn grows() { let a = [0]; loop { a += a; } }")?;
     assert!(matches!(other.call_fn::<()>(&mut scope, &grows, "grows", ()), Err(EvalError::OutOfMemory { .. })));
     assert_eq!(scope.get::<i64>("later"), Some(5));
+    Ok(())
+}
+
+#[test]
+fn variables_are_read_and_written_between_calls_at_once() -> Result<(), EvalError> {
+    let engine = Engine::new();
+    let ast = engine.compile("fn sum(a, b) { a + b } fn flips(is) { !is } fn counter() { let n = 0; || { n += 1; n } }")?;
+    let sum = |scope: &mut Scope| engine.call_fn::<i64>(scope, &ast, "sum", (40, 2));
+    let mut scope = Scope::of([("x", 1), ("y", 2)])?;
+    // (each is the first to use the scope after a call whose run keeps the variables)
+    assert_eq!(sum(&mut scope)?, 42);
+    assert_eq!(scope.len(), 2);
+    assert_eq!(sum(&mut scope)?, 42);
+    assert_eq!(scope.names()?, ["x", "y"]);
+    assert_eq!(sum(&mut scope)?, 42);
+    assert_eq!(scope.get::<i64>("y"), Some(2));
+    assert_eq!(sum(&mut scope)?, 42);
+    scope.set("y", 3)?;
+    assert_eq!(sum(&mut scope)?, 42);
+    assert_eq!(scope.save()?.restore()?.get::<i64>("y"), Some(3));
+    assert_eq!(sum(&mut scope)?, 42);
+    assert_eq!(scope.snapshot()?.variables().count(), 2);
+    assert_eq!(sum(&mut scope)?, 42);
+    assert_eq!(engine.eval_with_scope::<i64>(&mut scope, "x + y")?, 4);
+    assert_eq!(sum(&mut scope)?, 42);
+    scope.rewind(1)?;
+    assert_eq!(sum(&mut scope)?, 42);
+    scope.push("z", 5)?;
+    assert_eq!(scope.names()?, ["x", "z"]);
+    assert!(!engine.call_fn::<bool>(&mut scope, &ast, "flips", (true,))?);
+    // (what doesn't cross in numbers, a wrong count, and a value of another type leave it as it was)
+    assert!(engine.call_fn::<String>(&mut scope, &ast, "sum", ("a", 'b')).is_ok_and(|text| text == "ab"));
+    assert!(matches!(engine.call_fn::<i64>(&mut scope, &ast, "sum", (1,)), Err(EvalError::NoFunction { arguments: 1, .. })));
+    assert!(matches!(engine.call_fn::<bool>(&mut scope, &ast, "sum", (1, 2)), Err(EvalError::Mismatch(_))));
+    assert_eq!(sum(&mut scope)?, 42);
+    assert_eq!(scope.iter().collect::<Result<Vec<_>, _>>()?.len(), 2);
+    // (a function keeps what it captured, from one call to the next)
+    let counter: Function = engine.call_fn(&mut scope, &ast, "counter", ())?;
+    assert_eq!(sum(&mut scope)?, 42);
+    assert_eq!(counter.call::<i64>(&engine, &mut scope, &ast, ())?, 1);
+    assert_eq!(sum(&mut scope)?, 42);
+    assert_eq!(counter.call::<i64>(&engine, &mut scope, &ast, ())?, 2);
+    Ok(())
+}
+
+#[test]
+fn calls_at_once_count_their_own_operations() -> Result<(), EvalError> {
+    let mut engine = Engine::new();
+    engine.set_max_operations(1_000);
+    let ast = engine
+        .compile("fn count(to) { let n = 0; while n < to { n += 1; } n } fn deep(n) { if n == 0 { 0 } else { deep(n - 1) } }")?;
+    let mut scope = Scope::new()?;
+    for _ in 0..20 {
+        assert_eq!(engine.call_fn::<i64>(&mut scope, &ast, "count", (100,))?, 100);
+    }
+    assert!(matches!(engine.call_fn::<i64>(&mut scope, &ast, "count", (10_000,)), Err(EvalError::TooManyOperations { .. })));
+    assert_eq!(engine.call_fn::<i64>(&mut scope, &ast, "deep", (10,))?, 0);
     Ok(())
 }

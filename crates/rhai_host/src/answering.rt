@@ -213,6 +213,17 @@ pub extern "C" fn rhai_host_script_answer(alloc: Global, handle: &mut Handle, va
     status
 }
 
+/// Makes unit (kind 0), a boolean (1, true unless the number is 0) or an int (2); `None` for other
+/// kinds.
+pub(crate) fn number_in(kind: u32, number: i64) -> Option<Dynamic> {
+    match kind {
+        0 => Some(Dynamic::UNIT),
+        1 => Some(Dynamic::from_bool(number != 0)),
+        2 => Some(Dynamic::from_int(number)),
+        _ => None,
+    }
+}
+
 fn answer_and_go(
     alloc: Global,
     kept: &mut Kept,
@@ -250,13 +261,7 @@ pub extern "C" fn rhai_host_script_answer_and_go(
     let Some(mut kept) = handle.take(alloc) else {
         return CLOSED;
     };
-    let answer = match kind {
-        0 => Some(Dynamic::UNIT),
-        1 => Some(Dynamic::from_bool(number != 0)),
-        2 => Some(Dynamic::from_int(number)),
-        _ => None,
-    };
-    let status = match answer {
+    let status = match number_in(kind, number) {
         Some(answer) => answer_and_go(alloc, &mut kept, answer, operations, stop),
         None => NO_COMMAND,
     };

@@ -4,7 +4,7 @@ ghost use Rattle.std.specs.Prelude.{◌≡◌};
 ghost use Rattle.rhai_host.specs.Content.{content};
 ghost use Rattle.rhai_host.specs.Engines.{KeepsWorld, OnScripts};
 
-use crate::answering::{Scalar, arguments_in, scalar_of, status_of};
+use crate::answering::{Scalar, arguments_in, number_in, scalar_of, status_of};
 use crate::handle::Handle;
 use crate::handle::kept::Kept;
 use crate::perform::{CLOSED, DONE, NO_COMMAND, OUT_OF_MEMORY};
@@ -159,25 +159,32 @@ fn standing(engine: &Engine) -> Position {
     }
 }
 
+/// Reports a stop of this kind where the run is.
+fn tell_here(kept: &mut Kept, stop: &mut ScriptStop, kind: u32)
+    ensures { KeepsWorld kept.old kept.new }
+{
+    let place = standing(&kept.engine);
+    tell_stop(kept, stop, kind, place, "");
+}
+
 /// Reports why a run stopped.
 pub(crate) fn tell_step(alloc: Global, kept: &mut Kept, stop: &mut ScriptStop, step: Step)
     ensures { KeepsWorld kept.old kept.new }
 {
-    let place = standing(&kept.engine);
     match step {
         Step::Done => {
             tell_stop(kept, stop, 0, Position::NONE, "");
             tell_result(kept.engine.value(), stop);
         }
-        Step::Paused => tell_stop(kept, stop, 1, place, ""),
-        Step::Statement => tell_stop(kept, stop, 3, place, ""),
-        Step::Memory => tell_stop(kept, stop, 4, place, ""),
+        Step::Paused => tell_here(kept, stop, 1),
+        Step::Statement => tell_here(kept, stop, 3),
+        Step::Memory => tell_here(kept, stop, 4),
         Step::Answered => {
-            tell_stop(kept, stop, 7, place, "");
+            tell_here(kept, stop, 7);
             tell_result(kept.engine.value(), stop);
         }
         Step::Calls(number) => {
-            tell_stop(kept, stop, 2, place, "");
+            tell_here(kept, stop, 2);
             if let Some(run) = kept.engine.run() {
                 tell_call(run, number, stop);
             }
@@ -401,7 +408,7 @@ fn call(alloc: Global, engine: &mut Engine, name: &[u8], arguments: &[u8]) -> u3
         return NO_COMMAND;
     };
     match arguments_in(alloc, arguments) {
-        Ok(arguments) => status_of(engine.call(name, arguments)),
+        Ok(mut arguments) => status_of(engine.call(name, &mut arguments)),
         Err(status) => status,
     }
 }
@@ -430,7 +437,7 @@ fn call_at_once(
     kept: &mut Kept,
     limits: &RunLimits,
     name: &[u8],
-    arguments: &[u8],
+    arguments: &mut [Dynamic],
     operations: u64,
     stop: &mut ScriptStop,
 ) -> u32
@@ -439,19 +446,12 @@ fn call_at_once(
     let Some(name) = text_in(name) else {
         return NO_COMMAND;
     };
-    let arguments = match arguments_in(alloc, arguments) {
-        Ok(arguments) => arguments,
-        Err(status) => return status,
-    };
     match kept
         .engine
         .call_at_once(limits, name, arguments, operations)
     {
         Ok(Some(step)) => {
             tell_step(alloc, kept, stop, step);
-            if stop.kind == 0 && stop.value_kind != NOT_REPORTED.kind {
-                kept.engine.end();
-            }
             DONE
         }
         Ok(None) => NO_COMMAND,
@@ -459,11 +459,63 @@ fn call_at_once(
     }
 }
 
+/// As many arguments may be passed in numbers.
+const MOST_NUMBERS: usize = 6;
+
+/// Makes values of kinds and numbers; returns whether these are as many values, at most
+/// `MOST_NUMBERS`.
+fn numbers_in(kinds: &[u8], numbers: &[usize], values: &mut [Dynamic]) -> bool {
+    if kinds.len() != numbers.len() || kinds.len() > values.len() {
+        return false;
+    }
+    for (place, (kind, number)) in values.iter_mut().zip(kinds.iter().zip(numbers)) {
+        match number_in(u32::from(*kind), *number as i64) {
+            Some(value) => *place = value,
+            None => return false,
+        }
+    }
+    true
+}
+
+fn call_numbers(
+    alloc: Global,
+    kept: &mut Kept,
+    limits: &RunLimits,
+    name: &[u8],
+    kinds: &[u8],
+    numbers: &[usize],
+    operations: u64,
+    stop: &mut ScriptStop,
+) -> u32
+    ensures { KeepsWorld kept.old kept.new }
+{
+    let mut values = no_values();
+    if !numbers_in(kinds, numbers, &mut values) {
+        return NO_COMMAND;
+    }
+    let Some(arguments) = values.get_mut(..kinds.len()) else {
+        return NO_COMMAND;
+    };
+    call_at_once(alloc, kept, limits, name, arguments, operations, stop)
+}
+
+fn no_values() -> [Dynamic; MOST_NUMBERS] {
+    [
+        Dynamic::UNIT,
+        Dynamic::UNIT,
+        Dynamic::UNIT,
+        Dynamic::UNIT,
+        Dynamic::UNIT,
+        Dynamic::UNIT,
+    ]
+}
+
 /// Starts a run as `rhai_host_script_begin` does, of a script that has no statements outside
 /// functions, calls one of its functions as `rhai_host_script_call` does, and continues for at most
-/// this many operations. A run that is done has ended, if the stop reports its value. NO_COMMAND
-/// means that there is no run: the script has such statements, or no such function, or no operation
-/// is left for the function, or it is not a script for these variables.
+/// this many operations. NO_COMMAND means that there is no run: the script has such statements, or
+/// no such function, or no operation is left for the function, or it is not a script for these
+/// variables. A run of the script that is done is started again, and keeps the variables until
+/// `rhai_host_script_end`.
 #[unsafe(no_mangle)]
 pub extern "C" fn rhai_host_script_call_at_once(
     alloc: Global,
@@ -483,7 +535,47 @@ pub extern "C" fn rhai_host_script_call_at_once(
         return CLOSED;
     };
     let limits = limits_of(text, items, entries, calls);
-    let status = call_at_once(alloc, &mut kept, &limits, name, arguments, operations, stop);
+    let status = match arguments_in(alloc, arguments) {
+        Ok(mut arguments) => call_at_once(
+            alloc,
+            &mut kept,
+            &limits,
+            name,
+            &mut arguments,
+            operations,
+            stop,
+        ),
+        Err(status) => status,
+    };
+    handle.put(kept);
+    status
+}
+
+/// As `rhai_host_script_call_at_once`, with at most six arguments in numbers: each is unit (kind
+/// 0), a boolean (1, true unless the number is 0) or an int (2, the number has its bits).
+#[unsafe(no_mangle)]
+pub extern "C" fn rhai_host_script_call_numbers(
+    alloc: Global,
+    handle: &mut Handle,
+    text: usize,
+    items: usize,
+    entries: usize,
+    calls: usize,
+    name: &[u8],
+    kinds: &[u8],
+    numbers: &[usize],
+    operations: u64,
+    stop: &mut ScriptStop,
+) -> u32
+    ensures { OnScripts result (content handle.old) (content handle.new) }
+{
+    let Some(mut kept) = handle.take(alloc) else {
+        return CLOSED;
+    };
+    let limits = limits_of(text, items, entries, calls);
+    let status = call_numbers(
+        alloc, &mut kept, &limits, name, kinds, numbers, operations, stop,
+    );
     handle.put(kept);
     status
 }

@@ -13,7 +13,8 @@ impl Scope {
         self.let_go();
         self.ledger.reserve()?;
         let mut number = 0;
-        match done(sys::function_keep(&self.world.handle, source, at, &mut number)) {
+        let handle = if source == 2 { self.variables() } else { &self.world.handle };
+        match done(sys::function_keep(handle, source, at, &mut number)) {
             Ok(()) => Ok(Some(Ledger::function(&self.ledger, number))),
             Err(Error::NoCommand) => Ok(None),
             Err(error) => Err(error.into()),

@@ -64,6 +64,8 @@ pub struct Run<'a> {
     function: Option<(Cow<'a, str>, Vec<Value>)>,
     /// How far it got when it started.
     went: Option<Went>,
+    /// Whether it may rest once it is done.
+    may_rest: bool,
     /// How many variables are left at the end, if not all.
     stay: Option<usize>,
     stands: bool,
@@ -74,7 +76,7 @@ pub struct Run<'a> {
 impl<'a> Run<'a> {
     fn new(engine: &'a Engine, scope: &'a mut Scope) -> Run<'a> {
         let used = Used::new(&engine.watch);
-        Run { engine, scope, function: None, went: None, stay: None, stands: true, stops: false, used }
+        Run { engine, scope, function: None, went: None, may_rest: false, stay: None, stands: true, stops: false, used }
     }
 
     pub(super) fn begin(engine: &'a Engine, scope: &'a mut Scope, ast: &Ast) -> Result<Run<'a>, EvalError> {
@@ -133,6 +135,7 @@ impl<'a> Run<'a> {
         if !engine.stops_at_statements() && run.used.check(&engine.watch).is_ok() {
             let granted = run.used.granted(&engine.watch, u64::MAX);
             run.went = run.scope.call_at_once(ast, engine, name, &arguments, granted)?;
+            run.may_rest = run.went.is_some();
         }
         run.used.end_piece();
         if run.went.is_none() {
@@ -168,6 +171,10 @@ impl<'a> Run<'a> {
         }
         match gone {
             Ok(Came::Paused | Came::Statement { .. }) => {}
+            Ok(Came::Done(_)) if self.may_rest => {
+                self.stands = false;
+                self.scope.rest();
+            }
             Ok(Came::Done(_)) | Err(_) => self.end()?,
         }
         gone

@@ -85,7 +85,7 @@ impl Scope {
     /// Errors: an allocation fails.
     pub fn save(&self) -> Result<Saved, EvalError> {
         let mut told = Told::default();
-        let status = sys::script_snapshot(&self.world.handle, &mut told);
+        let status = sys::script_snapshot(self.variables(), &mut told);
         Ok(Saved { bytes: self.world.bytes(status, &told)? })
     }
 }

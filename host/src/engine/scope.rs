@@ -1,13 +1,14 @@
 //! The variables of scripts, and runs over them.
 use super::function::{Found, Ledger, Standing};
-use super::stop::{Scalar, Went};
+use super::stop::{Numbers, Scalar, Went};
 use super::{Ast, Engine, EvalError, Wanted};
 use crate::error::{done, Error};
 use crate::limits::Limits;
 use crate::memory::Memory;
-use crate::sys::{self, ScriptStop, Told};
+use crate::sys::{self, Handle, ScriptStop, Told};
 use crate::value::Value;
 use crate::world::World;
+use std::cell::Cell;
 use std::fmt;
 use std::sync::Arc;
 
@@ -45,13 +46,16 @@ pub struct Scope {
     pub(super) waiting: Option<Scalar>,
     /// Whether the library notes lines of `debug`.
     pub(super) notes_debugs: bool,
+    /// Whether a run that is done keeps the variables, for the next call of a function.
+    rests: Cell<bool>,
 }
 
 impl Scope {
     /// Makes a scope without variables.
     pub fn new() -> Result<Scope, EvalError> {
         let (stop, ledger) = (ScriptStop::default(), Arc::default());
-        Ok(Scope { world: World::new(Limits::default())?, compiled: None, ledger, stop, waiting: None, notes_debugs: false })
+        let world = World::new(Limits::default())?;
+        Ok(Scope { world, compiled: None, ledger, stop, waiting: None, notes_debugs: false, rests: Cell::new(false) })
     }
 
     /// Declares a variable.
@@ -59,7 +63,7 @@ impl Scope {
     /// Errors: an allocation fails; a number doesn't fit an int. The variable isn't declared then.
     pub fn push(&mut self, name: &str, value: impl TryInto<Value, Error: Into<EvalError>>) -> Result<&mut Scope, EvalError> {
         let value = value.try_into().map_err(Into::into)?;
-        done(value.with_bytes(|bytes| sys::variable_push(&self.world.handle, name.as_bytes(), bytes))?)?;
+        done(value.with_bytes(|bytes| sys::variable_push(self.variables(), name.as_bytes(), bytes))?)?;
         Ok(self)
     }
 
@@ -71,7 +75,7 @@ impl Scope {
             return self.push(name, value);
         };
         let value = value.try_into().map_err(Into::into)?;
-        done(value.with_bytes(|bytes| sys::variable_set(&self.world.handle, number, bytes))?)?;
+        done(value.with_bytes(|bytes| sys::variable_set(self.variables(), number, bytes))?)?;
         Ok(self)
     }
 
@@ -118,7 +122,7 @@ impl Scope {
     /// Returns the value of the variable of this number, the oldest being 0.
     pub(crate) fn value_at(&self, number: usize) -> Result<Value, EvalError> {
         let mut told = Told::default();
-        let status = sys::variable_value(&self.world.handle, number, &mut told);
+        let status = sys::variable_value(self.variables(), number, &mut told);
         self.value_told(status, &told)
     }
 
@@ -133,7 +137,7 @@ impl Scope {
 
     /// Returns the number of variables.
     pub fn len(&self) -> usize {
-        sys::variable_count(&self.world.handle)
+        sys::variable_count(self.variables())
     }
 
     /// Returns whether there are no variables.
@@ -148,7 +152,7 @@ impl Scope {
 
     /// Keeps the oldest `count` variables, and drops the newer ones.
     pub fn rewind(&mut self, count: usize) -> Result<(), EvalError> {
-        Ok(done(sys::variable_rewind(&self.world.handle, count))?)
+        Ok(done(sys::variable_rewind(self.variables(), count))?)
     }
 
     /// Returns how much memory the scope holds: its variables, the last script that ran, and that
@@ -160,7 +164,7 @@ impl Scope {
 
     pub(crate) fn name(&self, number: usize) -> Result<String, EvalError> {
         let mut told = Told::default();
-        let status = sys::variable_name(&self.world.handle, number, &mut told);
+        let status = sys::variable_name(self.variables(), number, &mut told);
         String::from_utf8(self.world.bytes(status, &told)?).map_err(|_| EvalError::Unexpected)
     }
 
@@ -176,6 +180,15 @@ impl Scope {
 
 /// Runs.
 impl Scope {
+    /// Returns the world's handle, for access to the variables: a run that rests gives them back.
+    pub(super) fn variables(&self) -> &Handle {
+        if self.rests.replace(false) {
+            // (ending a run fails only for a closed world, and a scope's world is open)
+            let _status = sys::script_end(&self.world.handle);
+        }
+        &self.world.handle
+    }
+
     /// Has the library compile a script for these variables, within the engine's memory limit.
     pub(crate) fn compile(&mut self, ast: &Ast, engine: &Engine) -> Result<(), EvalError> {
         self.world.set_max_memory(engine.limits().memory);
@@ -188,7 +201,7 @@ impl Scope {
         self.compiled = None;
         let mut stop = ScriptStop::default();
         let names = engine.names();
-        done(sys::script_compile(&self.world.handle, ast.text().as_bytes(), names.as_bytes(), &mut stop))?;
+        done(sys::script_compile(self.variables(), ast.text().as_bytes(), names.as_bytes(), &mut stop))?;
         let (_, message) = self.texts(&stop)?;
         if stop.kind != 0 {
             return Err(EvalError::Syntax { message, line: stop.line, column: stop.column });
@@ -216,7 +229,7 @@ impl Scope {
     /// Starts a run of the script that was compiled last, if it was compiled for these variables.
     fn begins(&mut self, engine: &Engine, with_body: bool) -> Result<bool, EvalError> {
         let (text, items) = engine.limits().numbers();
-        match done(sys::script_begin(&self.world.handle, text, items, engine.entries(), engine.calls(), with_body)) {
+        match done(sys::script_begin(self.variables(), text, items, engine.entries(), engine.calls(), with_body)) {
             Ok(()) => {
                 if engine.stops_at_statements() {
                     self.stop_at_statements(true)?;
@@ -256,20 +269,23 @@ impl Scope {
         }
         self.note_debugs(engine)?;
         let (text, items) = engine.limits().numbers();
+        let (entries, calls, name) = (engine.entries(), engine.calls(), name.as_bytes());
         let (handle, stop) = (&self.world.handle, &mut self.stop);
-        let (name, arguments) = (name.as_bytes(), Value::list_bytes(arguments)?);
-        match done(sys::script_call_at_once(
-            handle,
-            text,
-            items,
-            engine.entries(),
-            engine.calls(),
-            name,
-            &arguments,
-            operations,
-            stop,
-        )) {
-            Ok(()) => self.went().map(Some),
+        let status = match Numbers::of(arguments) {
+            Some(of) => {
+                let (kinds, numbers) = (&of.kinds[..arguments.len()], &of.numbers[..arguments.len()]);
+                sys::script_call_numbers(handle, text, items, entries, calls, name, kinds, numbers, operations, stop)
+            }
+            None => {
+                let arguments = Value::list_bytes(arguments)?;
+                sys::script_call_at_once(handle, text, items, entries, calls, name, &arguments, operations, stop)
+            }
+        };
+        match done(status) {
+            Ok(()) => {
+                self.rests.set(false);
+                self.went().map(Some)
+            }
             Err(Error::NoCommand) => Ok(None),
             Err(error) => Err(error.into()),
         }
@@ -289,11 +305,20 @@ impl Scope {
         Ok(())
     }
 
+    /// Leaves a run that is done as it is, without a limit on memory: the next call of a function
+    /// starts it again.
+    pub(super) fn rest(&mut self) {
+        self.waiting = None;
+        self.world.set_max_memory(None);
+        self.rests.set(true);
+    }
+
     /// Ends the run, if there is one: the scope has its variables back, without a limit on memory.
     pub(crate) fn end(&mut self) -> Result<(), EvalError> {
         self.waiting = None;
         self.let_go();
         self.world.set_max_memory(None);
+        self.rests.set(false);
         Ok(done(sys::script_end(&self.world.handle))?)
     }
 }

@@ -113,6 +113,30 @@ impl Scalar {
     }
 }
 
+/// Arguments that cross in numbers.
+pub(super) struct Numbers {
+    pub(super) kinds: [u8; MOST],
+    pub(super) numbers: [usize; MOST],
+}
+
+/// How many arguments may cross in numbers.
+const MOST: usize = 6;
+
+impl Numbers {
+    /// Returns the numbers of these values, if there are few, and all of them cross in numbers.
+    pub(super) fn of(values: &[Value]) -> Option<Numbers> {
+        let mut numbers = Numbers { kinds: [0; MOST], numbers: [0; MOST] };
+        if values.len() > MOST {
+            return None;
+        }
+        for (at, value) in values.iter().enumerate() {
+            let (kind, number) = Scalar::of(value)?.numbers();
+            (numbers.kinds[at], numbers.numbers[at]) = (kind as u8, number as usize);
+        }
+        Some(numbers)
+    }
+}
+
 /// How a run of the scope continues.
 impl Scope {
     /// Continues the run for at most this many operations, with the result that waits for it.

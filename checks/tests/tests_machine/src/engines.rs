@@ -53,7 +53,7 @@ fn an_engine_is_used(alloc: Global) -> Option<bool> {
         .ok()?;
     let begun = engine.begin(&LIMITS, true).ok()?;
     let first = driven(&mut engine)?;
-    let called = engine.call("twice", ints(alloc, &[4])?).ok()?;
+    let called = engine.call("twice", &mut ints(alloc, &[4])?).ok()?;
     let second = driven(&mut engine)?;
     engine.end();
     let left = engine.scope().get(0)?.as_int(engine.store()).ok()?;
@@ -108,38 +108,68 @@ fn other_bytes_are_no_value(rt: HostRuntime) {
 }
 
 /// What `call_at_once` returns: nothing for a script with statements, an unknown function and too
-/// few operations; then a value, and a pause.
+/// few operations; then a value, another one of a run that starts again, and a pause.
 fn at_once(alloc: Global) -> Option<bool> {
     let mut engine = Engine::new(alloc);
     engine.compile("fn sum(x, y) { x + y } 1", &[]).ok()?;
     let body = engine
-        .call_at_once(&LIMITS, "sum", ints(alloc, &[3, 4])?, 100)
+        .call_at_once(&LIMITS, "sum", &mut ints(alloc, &[3, 4])?, 100)
         .ok()?;
     engine
         .compile("fn sum(x, y) { x + y } fn endless() { loop {} }", &[])
         .ok()?;
     let unknown = engine
-        .call_at_once(&LIMITS, "sum", ints(alloc, &[3])?, 100)
+        .call_at_once(&LIMITS, "sum", &mut ints(alloc, &[3])?, 100)
         .ok()?;
     let few = engine
-        .call_at_once(&LIMITS, "sum", ints(alloc, &[3, 4])?, 2)
+        .call_at_once(&LIMITS, "sum", &mut ints(alloc, &[3, 4])?, 2)
         .ok()?;
     let none = body.is_none() && unknown.is_none() && few.is_none() && engine.run().is_none();
     let done = engine
-        .call_at_once(&LIMITS, "sum", ints(alloc, &[3, 4])?, 100)
+        .call_at_once(&LIMITS, "sum", &mut ints(alloc, &[3, 4])?, 100)
         .ok()?;
+    let operations = engine.run()?.operations();
     let sum = engine.value().as_int(engine.store()).ok()?;
+    let more = engine
+        .call_at_once(&LIMITS, "sum", &mut ints(alloc, &[30, 4])?, 100)
+        .ok()?;
+    let is_more = matches!(more, Some(Step::Done))
+        && engine.value().as_int(engine.store()).ok()? == 34
+        && engine.run()?.operations() == operations;
     let again = engine
-        .call_at_once(&LIMITS, "endless", ints(alloc, &[])?, 100)
+        .call_at_once(&LIMITS, "endless", &mut ints(alloc, &[])?, 100)
         .ok()?;
     let is_done = matches!(done, Some(Step::Done)) && sum == 7;
-    Some(
-        none && is_done && matches!(again, Some(Step::Paused)) && engine.run()?.operations() == 100,
-    )
+    let is_paused = matches!(again, Some(Step::Paused)) && engine.run()?.operations() == 100;
+    Some(none && is_done && is_more && is_paused)
 }
 
 #[test]
 fn a_function_is_called_at_once(rt: HostRuntime) {
     let is_called = at_once(rt.alloc());
     assert!(rt; is_called == Some(true));
+}
+
+/// A run that starts again has the variables until it ends, and reads what it wrote before.
+fn at_once_over_variables(alloc: Global) -> Option<bool> {
+    let mut engine = Engine::new(alloc);
+    engine.scope_mut().push("n", Dynamic::from_int(1)).ok()?;
+    engine.compile("fn kept(x) { let f = || x; f.call() }", &[]).ok()?;
+    let mut values = Vec::new(alloc);
+    for number in 0..3 {
+        engine
+            .call_at_once(&LIMITS, "kept", &mut ints(alloc, &[number])?, 100)
+            .ok()?;
+        values.push(engine.value().as_int(engine.store()).ok()?).ok()?;
+    }
+    let is_away = engine.scope().is_empty();
+    engine.end();
+    let n = engine.scope().get(0)?.as_int(engine.store()).ok()?;
+    Some(values.as_slice() == [0, 1, 2].as_slice() && is_away && n == 1 && engine.scope().len() == 1)
+}
+
+#[test]
+fn runs_that_start_again_keep_the_variables(rt: HostRuntime) {
+    let is_kept = at_once_over_variables(rt.alloc());
+    assert!(rt; is_kept == Some(true));
 }

@@ -119,7 +119,7 @@ fn ends_within(alloc: Global, at_once: u64) -> Option<bool> {
     let value = value_of(&run, &outcome);
     let waits = run.arguments() > 0 || run.answer(&program, Dynamic::from_int(0)).ok()?;
     let is_free = run.depth() == 0 && !waits;
-    let may_call = run.call(&program, "twice", ints(alloc, &[21])?).ok()?;
+    let may_call = run.call(&program, "twice", &mut ints(alloc, &[21])?).ok()?;
     let called = driven(&mut run, &program, at_once);
     let second = value_of(&run, &called);
     let scope = run.into_scope(&program);
@@ -143,7 +143,7 @@ fn calls_end(alloc: Global) -> Option<bool> {
     let mut run = Run::over(alloc, &program, &LIMITS, &mut scope).ok()??;
     let _unit = driven(&mut run, &program, 1_000);
     for x in 0..3 {
-        if !run.call(&program, "f", ints(alloc, &[x])?).ok()? {
+        if !run.call(&program, "f", &mut ints(alloc, &[x])?).ok()? {
             return Some(false);
         }
         let outcome = driven(&mut run, &program, 2);

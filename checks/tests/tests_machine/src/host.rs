@@ -108,16 +108,16 @@ fn is_called_again(alloc: Global) -> Option<bool> {
         "fn sum(a, b) { a + b }\nfn fails() { 1 / 0 }\nlet n = 1; let f = || n; n += 1; f.call()";
     let program = compiled(alloc, text)?;
     let mut run = begun(alloc, &program)?;
-    let early = run.call(&program, "fails", Vec::new(alloc)).ok()?;
+    let early = run.call(&program, "fails", &mut Vec::new(alloc)).ok()?;
     let first = driven(&mut run, &program, 100);
-    let unknown = run.call(&program, "sum", Vec::new(alloc)).ok()?;
-    let begins = run.call(&program, "sum", ints(alloc, &[3, 4])?).ok()?;
+    let unknown = run.call(&program, "sum", &mut Vec::new(alloc)).ok()?;
+    let begins = run.call(&program, "sum", &mut ints(alloc, &[3, 4])?).ok()?;
     let second = driven(&mut run, &program, 1);
     let is_right = value_of(&run, &first) == Some(2) && value_of(&run, &second) == Some(7);
-    let fails = run.call(&program, "fails", Vec::new(alloc)).ok()?;
+    let fails = run.call(&program, "fails", &mut Vec::new(alloc)).ok()?;
     let third = driven(&mut run, &program, 100);
     let is_failed = matches!(&third, Outcome::Fault(_));
-    let again = run.call(&program, "sum", ints(alloc, &[3, 4])?).ok()?;
+    let again = run.call(&program, "sum", &mut ints(alloc, &[3, 4])?).ok()?;
     let fourth = driven(&mut run, &program, 100);
     Some(
         !early

@@ -176,7 +176,7 @@ fn called(
     x: INT,
     y: INT,
 ) -> Option<INT> {
-    if !run.call(program, name, ints(alloc, &[x, y])?).ok()? {
+    if !run.call(program, name, &mut ints(alloc, &[x, y])?).ok()? {
         return None;
     }
     let outcome = driven(run, program, 3);

@@ -81,6 +81,21 @@ unsafe extern "C" {
         operations: u64,
         stop: &mut ScriptStop,
     ) -> u32;
+    fn rhai_host_script_call_numbers(
+        handle: *mut Handle,
+        text: usize,
+        items: usize,
+        entries: usize,
+        calls: usize,
+        name: *const u8,
+        name_len: usize,
+        kinds: *const u8,
+        kinds_len: usize,
+        numbers: *const usize,
+        numbers_len: usize,
+        operations: u64,
+        stop: &mut ScriptStop,
+    ) -> u32;
     fn rhai_host_script_end(handle: *mut Handle) -> u32;
 }
 
@@ -143,9 +158,10 @@ pub fn script_call(handle: &Handle, name: &[u8], arguments: &[u8]) -> u32 {
 
 /// Starts a run as `rhai_host_script_begin` does, of a script that has no statements outside
 /// functions, calls one of its functions as `rhai_host_script_call` does, and continues for at most
-/// this many operations. A run that is done has ended, if the stop reports its value. NO_COMMAND
-/// means that there is no run: the script has such statements, or no such function, or no operation
-/// is left for the function, or it is not a script for these variables.
+/// this many operations. NO_COMMAND means that there is no run: the script has such statements, or
+/// no such function, or no operation is left for the function, or it is not a script for these
+/// variables. A run of the script that is done is started again, and keeps the variables until
+/// `rhai_host_script_end`.
 #[inline]
 #[allow(clippy::too_many_arguments)]
 pub fn script_call_at_once(
@@ -174,6 +190,45 @@ pub fn script_call_at_once(
             name.len(),
             arguments.as_ptr(),
             arguments.len(),
+            operations,
+            stop,
+        )
+    }
+}
+
+/// As `rhai_host_script_call_at_once`, with at most six arguments in numbers: each is unit (kind
+/// 0), a boolean (1, true unless the number is 0) or an int (2, the number has its bits).
+#[inline]
+#[allow(clippy::too_many_arguments)]
+pub fn script_call_numbers(
+    handle: &Handle,
+    text: usize,
+    items: usize,
+    entries: usize,
+    calls: usize,
+    name: &[u8],
+    kinds: &[u8],
+    numbers: &[usize],
+    operations: u64,
+    stop: &mut ScriptStop,
+) -> u32 {
+    // SAFETY: `handle` is zeros or what a call left, and this call's alone: it is no `Sync`, and the library comes back by
+    // the doors only. `name` is a slice with its own length, and is read. `kinds` is a slice with its own length, and is
+    // read. `numbers` is a slice with its own length, and is read. `stop` is a whole `ScriptStop` that nobody else has. Any
+    // `text`, `items`, `entries`, `calls`, `operations` will do.
+    unsafe {
+        rhai_host_script_call_numbers(
+            handle.lent().at(),
+            text,
+            items,
+            entries,
+            calls,
+            name.as_ptr(),
+            name.len(),
+            kinds.as_ptr(),
+            kinds.len(),
+            numbers.as_ptr(),
+            numbers.len(),
             operations,
             stop,
         )

@@ -469,7 +469,7 @@ fn numbers_in(kinds: &[u8], numbers: &[usize], values: &mut [Dynamic]) -> bool {
         return false;
     }
     for (place, (kind, number)) in values.iter_mut().zip(kinds.iter().zip(numbers)) {
-        match number_in(u32::from(*kind), *number as i64) {
+        match number_in(u32::from(*kind), (*number as u64).cast_signed()) {
             Some(value) => *place = value,
             None => return false,
         }

@@ -10,10 +10,10 @@ mod many;
 use crate::many::run_many;
 use rhai_text::Limits;
 use script_run::{ScriptError, ScriptLimits, run_script};
-use std::{env, io};
 use std::io::Eprint;
 use std::process::ExitCode;
 use std::rt::Env;
+use std::{env, io};
 
 /// The script failed.
 const FAILED: u8 = 1;

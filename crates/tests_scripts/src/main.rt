@@ -5,8 +5,8 @@
 use rhai_text::Limits;
 use script_run::{ScriptLimits, run_script};
 use std::alloc::{AllocError, Global};
-use std::{env, fs, io};
 use std::rt::{Env, Files};
+use std::{env, fs, io};
 
 /// What a script may use here.
 const LIMITS: ScriptLimits = ScriptLimits {

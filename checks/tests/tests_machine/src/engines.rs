@@ -154,18 +154,24 @@ fn a_function_is_called_at_once(rt: HostRuntime) {
 fn at_once_over_variables(alloc: Global) -> Option<bool> {
     let mut engine = Engine::new(alloc);
     engine.scope_mut().push("n", Dynamic::from_int(1)).ok()?;
-    engine.compile("fn kept(x) { let f = || x; f.call() }", &[]).ok()?;
+    engine
+        .compile("fn kept(x) { let f = || x; f.call() }", &[])
+        .ok()?;
     let mut values = Vec::new(alloc);
     for number in 0..3 {
         engine
             .call_at_once(&LIMITS, "kept", &mut ints(alloc, &[number])?, 100)
             .ok()?;
-        values.push(engine.value().as_int(engine.store()).ok()?).ok()?;
+        values
+            .push(engine.value().as_int(engine.store()).ok()?)
+            .ok()?;
     }
     let is_away = engine.scope().is_empty();
     engine.end();
     let n = engine.scope().get(0)?.as_int(engine.store()).ok()?;
-    Some(values.as_slice() == [0, 1, 2].as_slice() && is_away && n == 1 && engine.scope().len() == 1)
+    Some(
+        values.as_slice() == [0, 1, 2].as_slice() && is_away && n == 1 && engine.scope().len() == 1,
+    )
 }
 
 #[test]

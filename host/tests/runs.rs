@@ -405,7 +405,7 @@ fn a_function_called_at_once_uses_what_the_scope_has() -> Result<(), EvalError> 
 #[test]
 fn variables_are_read_and_written_between_calls_at_once() -> Result<(), EvalError> {
     let engine = Engine::new();
-    let ast = engine.compile("fn sum(a, b) { a + b } fn flips(is) { !is } fn counter() { let n = 0; || { n += 1; n } }")?;
+    let ast = engine.compile("fn sum(a, b) { a + b } fn flips(truth) { !truth } fn counter() { let n = 0; || { n += 1; n } }")?;
     let sum = |scope: &mut Scope| engine.call_fn::<i64>(scope, &ast, "sum", (40, 2));
     let mut scope = Scope::of([("x", 1), ("y", 2)])?;
     // (each is the first to use the scope after a call whose run keeps the variables)

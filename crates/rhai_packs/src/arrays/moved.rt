@@ -9,7 +9,7 @@ use std::mem;
 
 /// Removes up to `count` items from an index on, and returns them; an index before the front means
 /// the front.
-/// Errors: an allocation fails, which there is none for no items; the array is unchanged.
+/// Errors: an allocation fails; the array is unchanged. If no items are removed, none is needed.
 /// Cost: the number of items from the index on.
 /// rhai: `drain`.
 pub fn drain(alloc: Global, items: &mut Array, index: INT, count: INT) -> Result<Array, AllocError>

@@ -1,7 +1,7 @@
 //! Splitting a text into an array of texts.
-ghost use Rattle.std.specs.Prelude.{◌≡◌, ◌<◌, ◌⊎◌, ◌∷◌, [], List, ℕ, Some, None, IfOk, IfSome, MatchOption, drop, false, length, take, true};
+ghost use Rattle.std.specs.Prelude.{◌≡◌, ◌<◌, ◌⊎◌, ◌∷◌, [], List, ℕ, Some, None, IfOk, IsOk, IfSome, MatchOption, drop, false, length, take, true};
 ghost use Rattle.std.specs.Char.{encode_utf8};
-ghost use Rattle.std.specs.Str.{chars as characters_of, encode_utf8_all};
+ghost use Rattle.std.specs.Str.{chars as characters_of, encode_utf8_all, trim_start};
 ghost use Rattle.std.specs.Str.Pattern.{FindsText};
 ghost use Rattle.rhai_value.specs.Tree.{fresh, text as text_leaf};
 ghost use Rattle.rhai_packs.specs.declared.texts.cuts.Side.TheVariants as side_of;
@@ -114,18 +114,23 @@ pub fn split_char(
 }
 
 /// Makes an array of the words: the parts without white space, as Unicode defines it.
-/// Errors: an allocation fails.
+/// Errors: an allocation fails. If there are no words, none is needed.
 /// Cost: the length of the text.
 /// rhai: `split`.
 pub fn split_words(alloc: Global, text: &ImmutableString) -> Result<Array, AllocError>
-    ensures { IfOk result (λ parts. AreTextsOf (AreWords (encode_utf8_all text.now)) parts.items) }
+    ensures words { IfOk result (λ parts. AreTextsOf (AreWords (encode_utf8_all text.now)) parts.items) }
+    ensures free { trim_start (encode_utf8_all text.now) ≡ [] → IsOk result }
 {
     words(alloc, text.as_str())
 }
 
 fn words(alloc: Global, text: &str) -> Result<Array, AllocError>
-    ensures { IfOk result (λ parts. AreTextsOf (AreWords text.now) parts.items) }
+    ensures words { IfOk result (λ parts. AreTextsOf (AreWords text.now) parts.items) }
+    ensures free { trim_start text.now ≡ [] → IsOk result }
 {
+    if text.trim_start().is_empty() {
+        return Ok(Vec::new(alloc));
+    }
     let mut parts = Vec::new(alloc);
     for word in text.split_whitespace() {
         parts.push(Dynamic::from_text(alloc, word)?)?;

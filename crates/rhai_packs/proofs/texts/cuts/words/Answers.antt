@@ -1,4 +1,4 @@
-use Rattle.std.proofs.Common.{◌≡◌, ◌++◌, ◌∷◌, [], arith, ap, subst, ◌∙◌}
+use Rattle.std.proofs.Common.{◌≡◌, ◌++◌, ◌∷◌, [], arith, ap, refl, subst, ◌∙◌}
 use Rattle.std.proofs.lemmas.Grind.{common_steps}
 use Rattle.std.proofs.lemmas.List.{append-nil}
 use Rattle.std.specs.Str.{chars}
@@ -30,4 +30,7 @@ loop-word-preserved c =
 pub returns : goal.returns
 returns c =
     let i = c.loop-word.invariant in
-    (i.done, subst (AreWords c.args.text.now) (append-nil i.done) (i.more [] c.in-None.ensures.steps.1), i.made)
+    record {
+      words = (i.done, subst (AreWords c.args.text.now) (append-nil i.done) (i.more [] c.in-None.ensures.steps.1), i.made);
+      free = λ _. refl;
+    }

@@ -459,7 +459,7 @@ fn call_at_once(
     }
 }
 
-/// As many arguments may be passed in numbers.
+/// The most arguments that may be passed in numbers.
 const MOST_NUMBERS: usize = 6;
 
 /// Makes values of kinds and numbers; returns whether these are as many values, at most

@@ -164,7 +164,7 @@ pub extern "C" fn rhai_host_script_change(alloc: Global, handle: &mut Handle, va
 
 fn call(alloc: Global, engine: &mut Engine, number: usize, arguments: &[u8]) -> u32 {
     match arguments_in(alloc, arguments) {
-        Ok(arguments) => status_of(engine.call_kept(number, arguments)),
+        Ok(mut arguments) => status_of(engine.call_kept(number, &mut arguments)),
         Err(status) => status,
     }
 }

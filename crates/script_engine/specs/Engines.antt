@@ -50,9 +50,17 @@ argument_pointer e n = if e.is_running then option_and_then (held_pointer (cells
 abbrev pub value_pointer : Engine → Option Tree
 value_pointer e = if e.is_running then held_pointer (cells_of e.run) e.value else None
 
+-- the engine f differs from e at most in the run
+abbrev pub SameButRun : Engine → Engine → Type 0
+SameButRun e f = f ≡ record e { run = f.run }
+
+-- the engine f differs from e at most in the run and its value
+abbrev pub SameButRunAndValue : Engine → Engine → Type 0
+SameButRunAndValue e f = f ≡ record e { run = f.run; value = f.value }
+
 -- the engine f differs from e at most in what its run printed
 abbrev pub OnlyPrints : Engine → Engine → Type 0
-OnlyPrints e f = (f ≡ record e { run = f.run }) × SameButPrinted e.run f.run
+OnlyPrints e f = SameButRun e f × SameButPrinted e.run f.run
 
 -- the engine whose run, or next one, notes lines of `debug`, or doesn't
 abbrev pub with_noting : Bool → Engine → Engine
@@ -64,4 +72,4 @@ with_stops_in b e = if e.is_running then record e { run = with_stops b e.run } e
 
 -- the engine f differs from e at most in the notes on lines of `debug`
 abbrev pub OnlyForgets : Engine → Engine → Type 0
-OnlyForgets e f = (f ≡ record e { run = f.run }) × SameButDebugs e.run f.run
+OnlyForgets e f = SameButRun e f × SameButDebugs e.run f.run

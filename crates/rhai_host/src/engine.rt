@@ -14,6 +14,7 @@ use rhai_text::{Limits, Position};
 use rhai_value::{Dynamic, INT};
 use script_code::HostName;
 use script_engine::{Engine, Step};
+use script_faults::Fault;
 use script_run::{Run, ScriptError};
 use script_slots::RunLimits;
 use script_syntax::SyntaxError;
@@ -189,30 +190,20 @@ pub(crate) fn tell_step(alloc: Global, kept: &mut Kept, stop: &mut ScriptStop, s
                 tell_call(run, number, stop);
             }
         }
-        Step::Fault(fault) => {
-            let why = fault.kind.message(alloc, kept.engine.store());
-            tell_why(kept, stop, 5, fault.position, &why);
-        }
-        Step::Refused(fault) => {
-            let why = fault.kind.message(alloc, kept.engine.store());
-            tell_why(kept, stop, 8, fault.position, &why);
-        }
+        Step::Fault(fault) => tell_fault(alloc, kept, stop, 5, &fault),
+        Step::Refused(fault) => tell_fault(alloc, kept, stop, 8, &fault),
     }
 }
 
-/// Reports a stop of this kind with what went wrong, as far as the allocations succeed.
-fn tell_why(
-    kept: &mut Kept,
-    stop: &mut ScriptStop,
-    kind: u32,
-    place: Position,
-    why: &Result<String, AllocError>,
-)
+/// Reports a stop of this kind by a fault, with its message as far as the allocations succeed.
+#[cold]
+#[inline(never)]
+fn tell_fault(alloc: Global, kept: &mut Kept, stop: &mut ScriptStop, kind: u32, fault: &Fault)
     ensures { KeepsWorld kept.old kept.new }
 {
-    match why {
-        Ok(why) => tell_stop(kept, stop, kind, place, why.as_str()),
-        Err(_) => tell_stop(kept, stop, kind, place, ""),
+    match fault.kind.message(alloc, kept.engine.store()) {
+        Ok(why) => tell_stop(kept, stop, kind, fault.position, why.as_str()),
+        Err(_) => tell_stop(kept, stop, kind, fault.position, ""),
     }
 }
 

@@ -28,8 +28,7 @@ pub use variables::Variables;
 pub use watch::Interrupt;
 
 use crate::limits::Limits;
-use functions::{Given, Refused, Registered, Unread};
-use std::any::Any;
+use functions::{Given, Panic, Refused, Registered, Unread};
 use std::fmt;
 use std::io::Write;
 use std::sync::atomic::{AtomicU64, Ordering};
@@ -314,7 +313,7 @@ impl Engine {
         name: &str,
         arguments: impl Arguments,
     ) -> Result<T, EvalError> {
-        Run::call_whole(self, scope, ast, name, arguments.into_values()?)
+        arguments.with_values(|values| Run::call_whole(self, scope, ast, name, values))?
     }
 
     /// Starts a run of a compiled script over the variables of a scope, for execution in pieces:
@@ -361,7 +360,7 @@ impl Engine {
     }
 
     /// Calls a registered function. It returns, fails or panics.
-    fn call(&self, function: usize, call: &mut Call<'_>) -> Result<Result<Given, Refused>, Box<dyn Any + Send>> {
+    fn call(&self, function: usize, call: &mut Call<'_>) -> Result<Result<Given, Refused>, Panic> {
         match self.functions.get(function) {
             Some(registered) => registered.call(call),
             None => Ok(Err(Refused::Ends(EvalError::Unexpected))),

@@ -458,3 +458,22 @@ fn calls_at_once_count_their_own_operations() -> Result<(), EvalError> {
     assert_eq!(engine.call_fn::<i64>(&mut scope, &ast, "deep", (10,))?, 0);
     Ok(())
 }
+
+#[test]
+fn a_call_at_once_may_print_fail_or_have_another_type() -> Result<(), EvalError> {
+    let mut engine = Engine::new();
+    let lines = lines_of(&mut engine);
+    let ast = engine.compile("fn next(x) { x + 1 }\nfn shown(x) { print(x); x }\nfn text() { \"a\" }\nfn fails() { 1 / 0 }")?;
+    let mut scope = Scope::new()?;
+    for round in 0..3 {
+        assert_eq!(engine.call_fn::<i64>(&mut scope, &ast, "next", (round,))?, round + 1);
+        assert_eq!(engine.call_fn::<i64>(&mut scope, &ast, "shown", (round,))?, round);
+        assert_eq!(engine.call_fn::<i64>(&mut scope, &ast, "next", vec![Value::Int(round)])?, round + 1);
+        assert!(matches!(engine.call_fn::<i64>(&mut scope, &ast, "text", ()), Err(EvalError::Mismatch(_))));
+        assert_eq!(engine.call_fn::<String>(&mut scope, &ast, "text", ())?, "a");
+        assert!(matches!(engine.call_fn::<i64>(&mut scope, &ast, "fails", ()), Err(EvalError::Runtime { line: 4, .. })));
+        assert!(matches!(engine.call_fn::<i64>(&mut scope, &ast, "next", ()), Err(EvalError::NoFunction { .. })));
+    }
+    assert_eq!(*lines.lock().unwrap(), ["0", "1", "2"]);
+    Ok(())
+}

@@ -1,9 +1,10 @@
 //! Calls of host functions, while the script waits.
 use super::function::{Found, Standing};
-use super::functions::{Given, Refused};
-use super::stop::{Stop, Went};
+use super::functions::{Given, Panic, Refused};
+use super::stop::Stop;
 use super::watch::Used;
 use super::{Arguments, Engine, EvalError, Function, Scope, Wanted};
+use crate::sys::ScriptStop;
 use crate::value::Value;
 use std::fmt;
 
@@ -127,8 +128,8 @@ impl Call<'_> {
     fn go_within(&mut self) -> Result<Option<EvalError>, EvalError> {
         loop {
             self.used.check(&self.engine.watch)?;
-            let went = self.scope.go(self.used.granted(&self.engine.watch, u64::MAX))?;
-            let mut stop = self.see(went)?;
+            self.scope.go(self.used.granted(&self.engine.watch, u64::MAX))?;
+            let mut stop = self.see()?;
             if let Stop::Calls { function } = stop {
                 match self.answer(function)? {
                     Some(refused) => stop = refused,
@@ -150,10 +151,19 @@ impl Call<'_> {
         }
     }
 
-    /// Records how far the run went, and passes on what it printed.
-    pub(super) fn see(&mut self, went: Went) -> Result<Stop, EvalError> {
-        let Went { printed, debugs, operations, line, column, stop } = went;
+    /// Records how far the run went, passes on what it printed, and returns why it stopped.
+    #[inline]
+    pub(super) fn see(&mut self) -> Result<Stop, EvalError> {
+        let ScriptStop { operations, line, column, printed, said, .. } = self.scope.stop;
         (self.used.operations, self.used.line, self.used.column) = (operations, line, column);
+        let message = if printed == 0 && said == 0 { String::new() } else { self.pass_on()? };
+        self.scope.why(message)
+    }
+
+    /// Passes on what the run printed, and returns what went wrong.
+    fn pass_on(&mut self) -> Result<String, EvalError> {
+        let (printed, message) = self.scope.texts(&self.scope.stop)?;
+        let debugs = if printed.is_empty() { Vec::new() } else { self.scope.debugs()? };
         let mut at = 0;
         for debug in debugs {
             let end = debug.begin.saturating_add(debug.length);
@@ -164,7 +174,7 @@ impl Call<'_> {
             at = end;
         }
         self.print(printed.get(at..).ok_or(EvalError::Unexpected)?)?;
-        Ok(stop)
+        Ok(message)
     }
 
     /// Passes printed lines on.
@@ -181,9 +191,22 @@ impl Call<'_> {
     /// Calls a host function; returns how the run stopped if the call failed and nothing caught
     /// that.
     pub(super) fn answer(&mut self, function: usize) -> Result<Option<Stop>, EvalError> {
-        self.used.refused = None;
+        if self.used.refused.is_some() {
+            self.used.refused = None;
+        }
         let (within, engine) = (self.used.within, self.engine);
         let answered = engine.call(function, self);
+        if self.used.ended.is_none() {
+            if let Ok(Ok(Given::Value(value))) = &answered {
+                return self.scope.answer(value).map(|()| None);
+            }
+        }
+        self.answered(within, answered)
+    }
+
+    /// Answers the script's call, where that is more than passing a value.
+    #[cold]
+    fn answered(&mut self, within: usize, answered: Result<Result<Given, Refused>, Panic>) -> Result<Option<Stop>, EvalError> {
         match self.used.ended.take() {
             Some(EvalError::Ended) => return Ok(Some(Stop::Done)),
             Some(ended) => return Err(ended),
@@ -201,11 +224,11 @@ impl Call<'_> {
             Err(Refused::Ends(error)) => return Err(error),
             Err(Refused::Thrown(why)) => why,
         };
-        let went = match self.used.refused.take() {
+        match self.used.refused.take() {
             Some((said, value)) if said == why => self.scope.throw(&value)?,
             Some(_) | None => self.scope.refuse(&why)?,
-        };
-        match self.see(went)? {
+        }
+        match self.see()? {
             Stop::Paused => Ok(None),
             stop => Ok(Some(stop)),
         }

@@ -3,6 +3,7 @@ use super::functions::Wanted;
 use super::{Arguments, Ast, Call, Engine, EvalError, Run, Scope};
 use crate::value::{TryFromValueError, Value};
 use std::fmt;
+use std::sync::atomic::{AtomicBool, Ordering};
 use std::sync::{Arc, Mutex, MutexGuard, PoisonError};
 
 /// A function of a script, such as `Fn("name")`, `|x| x + y` or `name`. In rhai it is `FnPtr`.
@@ -45,6 +46,7 @@ impl Drop for Root {
         entries.live = entries.live.saturating_sub(1);
         // (its capacity was reserved when the function was kept)
         entries.dropped.push(self.number);
+        self.ledger.has_dropped.store(true, Ordering::Release);
     }
 }
 
@@ -52,6 +54,8 @@ impl Drop for Root {
 #[derive(Default)]
 pub(super) struct Ledger {
     entries: Mutex<Entries>,
+    /// Whether a function was dropped that is not freed yet: a scope looks here first, and takes no lock.
+    has_dropped: AtomicBool,
 }
 
 #[derive(Default)]
@@ -80,8 +84,15 @@ impl Ledger {
     }
 
     /// Takes the number of one dropped function.
+    #[inline]
     pub(super) fn take(&self) -> Option<usize> {
-        self.entries().dropped.pop()
+        if !self.has_dropped.load(Ordering::Acquire) {
+            return None;
+        }
+        let mut entries = self.entries();
+        let number = entries.dropped.pop();
+        self.has_dropped.store(!entries.dropped.is_empty(), Ordering::Release);
+        number
     }
 }
 

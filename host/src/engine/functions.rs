@@ -216,6 +216,12 @@ macro_rules! functions {
                     let ($($held,)*) = self;
                     Ok(vec![$($held.try_into().map_err(Into::into)?),*])
                 }
+
+                fn with_values<R>(self, work: impl FnOnce(&mut [Value]) -> R) -> Result<R, EvalError> {
+                    let ($($held,)*) = self;
+                    let mut values: [Value; $count] = [$($held.try_into().map_err(Into::into)?),*];
+                    Ok(work(&mut values))
+                }
             }
         )*
     };
@@ -284,6 +290,16 @@ pub trait Arguments {
     ///
     /// Errors: a number doesn't fit an int.
     fn into_values(self) -> Result<Vec<Value>, EvalError>;
+
+    /// Converts the arguments to values, and lends these. For a tuple no list is allocated.
+    ///
+    /// Errors: those of `into_values`.
+    fn with_values<R>(self, work: impl FnOnce(&mut [Value]) -> R) -> Result<R, EvalError>
+    where
+        Self: Sized,
+    {
+        self.into_values().map(|mut values| work(&mut values))
+    }
 }
 
 impl Arguments for Vec<Value> {
@@ -310,6 +326,9 @@ changing! {
     5: B b 1, C c 2, D d 3, G g 4;
     6: B b 1, C c 2, D d 3, G g 4, H h 5;
 }
+
+/// What a host function panicked with.
+pub(super) type Panic = Box<dyn Any + Send>;
 
 /// The closure that is called for a host function.
 type Called = Box<dyn Fn(&mut Call<'_>) -> Result<Given, Refused> + Send + Sync>;
@@ -345,7 +364,7 @@ impl Registered {
     }
 
     /// Calls it; returns the panic if it panics.
-    pub(crate) fn call(&self, call: &mut Call<'_>) -> Result<Result<Given, Refused>, Box<dyn Any + Send>> {
+    pub(crate) fn call(&self, call: &mut Call<'_>) -> Result<Result<Given, Refused>, Panic> {
         catch_unwind(AssertUnwindSafe(|| (self.call)(call)))
     }
 }

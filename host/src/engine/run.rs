@@ -1,14 +1,14 @@
 //! Paused runs, and their execution in pieces.
 use super::error::MOST_CALLS;
 use super::function::{Found, Standing};
-use super::stop::{Stop, Went};
+use super::stop::Stop;
 use super::watch::Used;
 use super::{Ast, Call, CallPlace, Engine, EvalError, Function, Scope, Wanted};
 use crate::memory::Memory;
 use crate::value::Value;
 use std::borrow::Cow;
 use std::fmt;
-use std::mem::replace;
+use std::mem::{replace, take};
 
 /// How far a run got.
 #[derive(Clone, Debug, PartialEq, Eq, Hash)]
@@ -62,8 +62,8 @@ pub struct Run<'a> {
     scope: &'a mut Scope,
     /// The function to call after the statements outside functions.
     function: Option<(Cow<'a, str>, Vec<Value>)>,
-    /// How far it got when it started.
-    went: Option<Went>,
+    /// Whether it stopped somewhere when it started, which wasn't looked at.
+    stopped: bool,
     /// Whether it may rest once it is done.
     may_rest: bool,
     /// How many variables are left at the end, if not all.
@@ -76,7 +76,7 @@ pub struct Run<'a> {
 impl<'a> Run<'a> {
     fn new(engine: &'a Engine, scope: &'a mut Scope) -> Run<'a> {
         let used = Used::new(&engine.watch);
-        Run { engine, scope, function: None, went: None, may_rest: false, stay: None, stands: true, stops: false, used }
+        Run { engine, scope, function: None, stopped: false, may_rest: false, stay: None, stands: true, stops: false, used }
     }
 
     pub(super) fn begin(engine: &'a Engine, scope: &'a mut Scope, ast: &Ast) -> Result<Run<'a>, EvalError> {
@@ -128,18 +128,26 @@ impl<'a> Run<'a> {
         scope: &'a mut Scope,
         ast: &Ast,
         name: &'a str,
-        arguments: Vec<Value>,
+        arguments: &mut [Value],
     ) -> Result<T, EvalError> {
         let mut run = Run::new(engine, scope);
         run.used.begin_piece(&engine.watch);
         if !engine.stops_at_statements() && run.used.check(&engine.watch).is_ok() {
             let granted = run.used.granted(&engine.watch, u64::MAX);
-            run.went = run.scope.call_at_once(ast, engine, name, &arguments, granted)?;
-            run.may_rest = run.went.is_some();
+            run.stopped = run.scope.call_at_once(ast, engine, name, arguments, granted)?;
+            run.may_rest = run.stopped;
         }
         run.used.end_piece();
-        if run.went.is_none() {
-            run.start_call(ast, name.into(), arguments)?;
+        if run.stopped && run.scope.is_done_silently() {
+            // (what fails here fails below too, with its place)
+            if let Ok(value) = T::found(&Found::new(run.scope, Standing::Value)) {
+                run.stands = false;
+                run.scope.rest();
+                return Ok(value);
+            }
+        }
+        if !run.stopped {
+            run.start_call(ast, name.into(), arguments.iter_mut().map(|it| replace(it, Value::Unit)).collect())?;
         }
         run.finish()
     }
@@ -262,18 +270,15 @@ impl Run<'_> {
     /// Continues until it has used this many operations, is done, or has to stop.
     fn advance<T: Wanted>(&mut self, until: u64) -> Result<Came<T>, EvalError> {
         loop {
-            let went = match self.went.take() {
-                Some(went) => went,
-                None => {
-                    self.used.check(&self.engine.watch)?;
-                    if self.used.operations >= until {
-                        self.scope.settle()?;
-                        return Ok(Came::Paused);
-                    }
-                    self.scope.go(self.used.granted(&self.engine.watch, until))?
+            if !take(&mut self.stopped) {
+                self.used.check(&self.engine.watch)?;
+                if self.used.operations >= until {
+                    self.scope.settle()?;
+                    return Ok(Came::Paused);
                 }
-            };
-            let mut stop = self.call().see(went)?;
+                self.scope.go(self.used.granted(&self.engine.watch, until))?;
+            }
+            let mut stop = self.call().see()?;
             if let Stop::Calls { function } = stop {
                 match self.call().answer(function)? {
                     Some(refused) => stop = refused,

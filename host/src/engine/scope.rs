@@ -1,6 +1,6 @@
 //! The variables of scripts, and runs over them.
 use super::function::{Found, Ledger, Standing};
-use super::stop::{Numbers, Scalar, Went};
+use super::stop::{Numbers, Scalar};
 use super::{Ast, Engine, EvalError, Wanted};
 use crate::error::{done, Error};
 use crate::limits::Limits;
@@ -253,7 +253,7 @@ impl Scope {
     }
 
     /// Starts a run of a script, calls a function of it, and continues for at most this many
-    /// operations, where the library does all that at once.
+    /// operations, where the library does all that at once; returns whether it did.
     pub(super) fn call_at_once(
         &mut self,
         ast: &Ast,
@@ -261,7 +261,7 @@ impl Scope {
         name: &str,
         arguments: &[Value],
         operations: u64,
-    ) -> Result<Option<Went>, EvalError> {
+    ) -> Result<bool, EvalError> {
         self.let_go();
         self.world.set_max_memory(engine.limits().memory);
         if self.compiled != Some((ast.serial(), engine.serial())) {
@@ -284,9 +284,9 @@ impl Scope {
         match done(status) {
             Ok(()) => {
                 self.rests.set(false);
-                self.went().map(Some)
+                Ok(true)
             }
-            Err(Error::NoCommand) => Ok(None),
+            Err(Error::NoCommand) => Ok(false),
             Err(error) => Err(error.into()),
         }
     }

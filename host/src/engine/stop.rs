@@ -4,20 +4,6 @@ use crate::error::done;
 use crate::sys::{self, ScriptStop, Told};
 use crate::value::Value;
 
-/// How a run got on.
-pub(crate) struct Went {
-    /// What it printed.
-    pub(crate) printed: String,
-    /// Which lines of that `debug` printed, in order, if the engine asks for them.
-    pub(crate) debugs: Vec<Debugged>,
-    /// How many operations it has used so far.
-    pub(crate) operations: u64,
-    /// Where it is; 0 if it is done.
-    pub(crate) line: u32,
-    pub(crate) column: u32,
-    pub(crate) stop: Stop,
-}
-
 /// A line of `debug` in what a run printed.
 pub(crate) struct Debugged {
     /// The bytes before it, and its own with the line feed.
@@ -137,17 +123,16 @@ impl Numbers {
     }
 }
 
-/// How a run of the scope continues.
+/// How a run of the scope continues: `stop` has where it stopped.
 impl Scope {
     /// Continues the run for at most this many operations, with the result that waits for it.
     #[inline]
-    pub(super) fn go(&mut self, operations: u64) -> Result<Went, EvalError> {
+    pub(super) fn go(&mut self, operations: u64) -> Result<(), EvalError> {
         let handle = &self.world.handle;
-        done(match self.waiting.take().map(Scalar::numbers) {
+        Ok(done(match self.waiting.take().map(Scalar::numbers) {
             Some((kind, number)) => sys::script_answer_and_go(handle, kind, number, operations, &mut self.stop),
             None => sys::script_go(handle, operations, &mut self.stop),
-        })?;
-        self.went()
+        })?)
     }
 
     /// Passes the result that waits to the run, which doesn't continue yet.
@@ -158,27 +143,34 @@ impl Scope {
         }
     }
 
+    /// Returns why the run stopped; the message is what went wrong.
     #[inline]
-    pub(super) fn went(&self) -> Result<Went, EvalError> {
-        let (printed, message) = self.texts(&self.stop)?;
-        let debugs = if self.notes_debugs && !printed.is_empty() { self.debugs()? } else { Vec::new() };
-        let ScriptStop { kind, function, line, column, operations, .. } = self.stop;
-        let stop = match kind {
+    pub(super) fn why(&self, message: String) -> Result<Stop, EvalError> {
+        Ok(match self.stop.kind {
             0 => Stop::Done,
             1 => Stop::Paused,
-            2 => Stop::Calls { function: function as usize },
+            2 => Stop::Calls { function: self.stop.function as usize },
             3 => Stop::Statement,
             4 => Stop::Memory,
             5 => Stop::Fault { message },
             7 => Stop::Answered,
             8 => Stop::Refused { message },
             _ => return Err(EvalError::Unexpected),
-        };
-        Ok(Went { printed, debugs, operations, line, column, stop })
+        })
+    }
+
+    /// Whether the run is done, and printed nothing since it continued.
+    #[inline]
+    pub(super) fn is_done_silently(&self) -> bool {
+        let ScriptStop { kind, printed, said, .. } = self.stop;
+        kind == 0 && printed == 0 && said == 0
     }
 
     /// Which of the printed lines are those of `debug`.
-    fn debugs(&self) -> Result<Vec<Debugged>, EvalError> {
+    pub(super) fn debugs(&self) -> Result<Vec<Debugged>, EvalError> {
+        if !self.notes_debugs {
+            return Ok(Vec::new());
+        }
         let mut told = Told::default();
         let status = sys::script_debugs(&self.world.handle, &mut told);
         let bytes = self.world.bytes(status, &told)?;
@@ -252,16 +244,14 @@ impl Scope {
 
     /// Fails the call of a registered function: either the script catches the error and continues,
     /// which is reported as a pause, or the run ends.
-    pub(super) fn refuse(&mut self, why: &str) -> Result<Went, EvalError> {
-        done(sys::script_refuse(&self.world.handle, why.as_bytes(), &mut self.stop))?;
-        self.went()
+    pub(super) fn refuse(&mut self, why: &str) -> Result<(), EvalError> {
+        Ok(done(sys::script_refuse(&self.world.handle, why.as_bytes(), &mut self.stop))?)
     }
 
     /// Fails the call with a value, as if the script had thrown it.
-    pub(super) fn throw(&mut self, value: &Value) -> Result<Went, EvalError> {
+    pub(super) fn throw(&mut self, value: &Value) -> Result<(), EvalError> {
         let (handle, stop) = (&self.world.handle, &mut self.stop);
-        done(value.with_bytes(|bytes| sys::script_throw(handle, bytes, stop))?)?;
-        self.went()
+        Ok(done(value.with_bytes(|bytes| sys::script_throw(handle, bytes, stop))?)?)
     }
 
     /// Replaces the first argument of the registered function being called.

@@ -114,7 +114,9 @@ fn ends_within(alloc: Global, at_once: u64) -> Option<bool> {
     let asked = driven(&mut run, &program, at_once);
     let is_asked = matches!(&asked, Outcome::Calls(0));
     let number = run.keep_argument(0).ok()??;
-    let is_called = run.call_kept(&program, number, ints(alloc, &[4])?).ok()?;
+    let is_called = run
+        .call_kept(&program, number, &mut ints(alloc, &[4])?)
+        .ok()?;
     let outcome = driven(&mut run, &program, at_once);
     let value = value_of(&run, &outcome);
     let waits = run.arguments() > 0 || run.answer(&program, Dynamic::from_int(0)).ok()?;

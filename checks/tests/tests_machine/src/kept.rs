@@ -32,7 +32,7 @@ fn names(alloc: Global) -> Option<Vec<HostName>> {
 fn applies(alloc: Global, engine: &mut Engine) -> Option<()> {
     let number = engine.keep_argument(0).ok()??;
     let given = engine.run()?.argument(1)?.as_int(engine.store()).ok()?;
-    let called = engine.call_kept(number, ints(alloc, &[given])?).ok()?;
+    let called = engine.call_kept(number, &mut ints(alloc, &[given])?).ok()?;
     if called && engine.let_go(number) && !engine.let_go(number) {
         Some(())
     } else {
@@ -136,9 +136,9 @@ fn a_function_is_kept(alloc: Global) -> Option<bool> {
     let text = "for i in 0..5000 { let x = i; let f = || x; }";
     engine.compile("let n = 1; |x| { n += x; n }", &host).ok()?;
     engine.begin(&LIMITS, false).ok()?;
-    let called = engine.call_kept(number, ints(alloc, &[4])?).ok()?;
+    let called = engine.call_kept(number, &mut ints(alloc, &[4])?).ok()?;
     let first = driven(alloc, &mut engine, 1)?;
-    let wrong = engine.call_kept(number, Vec::new(alloc)).ok()?;
+    let wrong = engine.call_kept(number, &mut []).ok()?;
     engine.end();
     engine.compile(text, &host).ok()?;
     engine.begin(&LIMITS, true).ok()?;

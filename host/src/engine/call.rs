@@ -191,9 +191,7 @@ impl Call<'_> {
     /// Calls a host function; returns how the run stopped if the call failed and nothing caught
     /// that.
     pub(super) fn answer(&mut self, function: usize) -> Result<Option<Stop>, EvalError> {
-        if self.used.refused.is_some() {
-            self.used.refused = None;
-        }
+        self.used.refused = None;
         let (within, engine) = (self.used.within, self.engine);
         let answered = engine.call(function, self);
         if self.used.ended.is_none() {
@@ -204,8 +202,8 @@ impl Call<'_> {
         self.answered(within, answered)
     }
 
-    /// Answers the script's call, where that is more than passing a value.
-    #[cold]
+    /// Answers the script's call with a function or an error, or ends the run.
+    #[inline(never)]
     fn answered(&mut self, within: usize, answered: Result<Result<Given, Refused>, Panic>) -> Result<Option<Stop>, EvalError> {
         match self.used.ended.take() {
             Some(EvalError::Ended) => return Ok(Some(Stop::Done)),

@@ -62,7 +62,7 @@ pub struct Run<'a> {
     scope: &'a mut Scope,
     /// The function to call after the statements outside functions.
     function: Option<(Cow<'a, str>, Vec<Value>)>,
-    /// Whether it stopped somewhere when it started, which wasn't looked at.
+    /// Whether it has stopped when it started, and that is still to be looked at.
     stopped: bool,
     /// Whether it may rest once it is done.
     may_rest: bool,

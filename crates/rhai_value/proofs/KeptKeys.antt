@@ -12,7 +12,7 @@ use Rattle.rhai_value.specs.Lists.{Row, rows, chunk_rows, joined, lists_of, rows
 use Rattle.rhai_value.specs.RowWalks.{chunk_scanned, chunk_view, copied_chunk, painted_chunk, painted_row, painted_rows, row_scanned, scanned}
 use Rattle.rhai_value.specs.Rows.{Rows, bytes_cmp, fields_of, copied_rows, AreRising, AreTexts}
 use Rattle.rhai_value.specs.Scan.{Visiting, fields_scanned}
-use Rattle.rhai_value.specs.Tree.{copy}
+use Rattle.rhai_value.specs.Tree.{copy_by}
 use Rattle.rhai_value.specs.declared.value.access_mode.AccessMode.{AccessMode}
 use Rattle.rhai_value.specs.declared.map.Chunk.{Chunk}
 use Rattle.rhai_value.specs.declared.map.Entry.{Entry}
@@ -146,11 +146,11 @@ parts_painted m p q first rest = parts_mapped (painted_row m) (λ r. refl) p q f
 pub whole_painted : (m : AccessMode) (p q : MapParts) → rows q.first.items ≡ painted_rows m (rows p.first.items) → map chunk_view q.rest.items ≡ map (painted_chunk m) (map chunk_view p.rest.items) → q.len ≡ p.len → IsWhole p → IsWhole q
 whole_painted m p q first rest = whole_mapped (painted_row m) (λ r. refl) p q first rest
 
-pub parts_copied : (p q : MapParts) → rows q.first.items ≡ copied_rows (rows p.first.items) → map chunk_view q.rest.items ≡ map copied_chunk (map chunk_view p.rest.items) → rows_of q ≡ copied_rows (rows_of p)
-parts_copied p q first rest = parts_mapped (λ r. (r.0, copy r.1)) (λ r. refl) p q first rest
+pub parts_copied : (f : AccessMode → AccessMode) (p q : MapParts) → rows q.first.items ≡ copied_rows f (rows p.first.items) → map chunk_view q.rest.items ≡ map (copied_chunk f) (map chunk_view p.rest.items) → rows_of q ≡ copied_rows f (rows_of p)
+parts_copied f p q first rest = parts_mapped (λ r. (r.0, copy_by f r.1)) (λ r. refl) p q first rest
 
-pub whole_copied : (p q : MapParts) → rows q.first.items ≡ copied_rows (rows p.first.items) → map chunk_view q.rest.items ≡ map copied_chunk (map chunk_view p.rest.items) → q.len ≡ p.len → IsWhole p → IsWhole q
-whole_copied p q first rest = whole_mapped (λ r. (r.0, copy r.1)) (λ r. refl) p q first rest
+pub whole_copied : (f : AccessMode → AccessMode) (p q : MapParts) → rows q.first.items ≡ copied_rows f (rows p.first.items) → map chunk_view q.rest.items ≡ map (copied_chunk f) (map chunk_view p.rest.items) → q.len ≡ p.len → IsWhole p → IsWhole q
+whole_copied f p q first rest = whole_mapped (λ r. (r.0, copy_by f r.1)) (λ r. refl) p q first rest
 
 -- ---- parts with the same lists
 

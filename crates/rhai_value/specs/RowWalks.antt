@@ -36,5 +36,5 @@ painted_rows m rs = map (painted_row m) rs
 abbrev pub painted_chunk : AccessMode → ℕ × Rows → ℕ × Rows
 painted_chunk m c = (c.0, painted_rows m c.1)
 
-abbrev pub copied_chunk : ℕ × Rows → ℕ × Rows
-copied_chunk c = (c.0, copied_rows c.1)
+abbrev pub copied_chunk : (AccessMode → AccessMode) → ℕ × Rows → ℕ × Rows
+copied_chunk f c = (c.0, copied_rows f c.1)

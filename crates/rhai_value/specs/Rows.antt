@@ -7,7 +7,8 @@ use Rattle.std.specs.Map.{keys_of}
 use Rattle.std.specs.Ordering.{nat_cmp}
 use Rattle.std.specs.Str.{chars, IsUtf8}
 use Rattle.std.specs.declared.cmp.Ordering.{Ordering}
-use Rattle.rhai_value.specs.Tree.{Tree, Trees, no_trees, tree_then, Fields, no_fields, field_then, copy}
+use Rattle.rhai_value.specs.declared.value.access_mode.AccessMode.{AccessMode}
+use Rattle.rhai_value.specs.Tree.{Tree, Trees, no_trees, tree_then, Fields, no_fields, field_then, copy_by}
 
 abbrev pub Rows : Type 0
 Rows = List (List ℕ × Tree)
@@ -34,6 +35,6 @@ abbrev pub fields_of : Rows → Fields
 fields_of [] = no_fields
 fields_of (r ∷ rs) = field_then (chars r.0) r.1 (fields_of rs)
 
--- the rows of its copy
-abbrev pub copied_rows : Rows → Rows
-copied_rows rs = map (λ r. (r.0, copy r.1)) rs
+-- the rows of its copy by f
+abbrev pub copied_rows : (AccessMode → AccessMode) → Rows → Rows
+copied_rows f rs = map (λ r. (r.0, copy_by f r.1)) rs

@@ -62,24 +62,41 @@ abbrev pub cell_of : Tree → Option ℕ
 cell_of (node (holder c) g m) = Some c
 cell_of _ = None
 
--- the same content and tags, every mode ReadWrite; a holder refers to the same cell
+-- the same content and tags, with f m in place of each mode m; a holder refers to the same cell
 abbrev mutual
-  pub copy : Tree → Tree
-  copy (node c g m) = node (copy_content c) g ReadWrite
+  pub copy_by : (AccessMode → AccessMode) → Tree → Tree
+  copy_by f (node c g m) = node (copy_content_by f c) g (f m)
 
-  pub copy_content : Content → Content
-  copy_content (leaf l) = leaf l
-  copy_content (branch k ts) = branch k (copy_trees ts)
-  copy_content (fields fs) = fields (copy_fields fs)
-  copy_content (holder c) = holder c
+  pub copy_content_by : (AccessMode → AccessMode) → Content → Content
+  copy_content_by f (leaf l) = leaf l
+  copy_content_by f (branch k ts) = branch k (copy_trees_by f ts)
+  copy_content_by f (fields fs) = fields (copy_fields_by f fs)
+  copy_content_by f (holder c) = holder c
 
-  pub copy_trees : Trees → Trees
-  copy_trees no_trees = no_trees
-  copy_trees (tree_then t ts) = tree_then (copy t) (copy_trees ts)
+  pub copy_trees_by : (AccessMode → AccessMode) → Trees → Trees
+  copy_trees_by f no_trees = no_trees
+  copy_trees_by f (tree_then t ts) = tree_then (copy_by f t) (copy_trees_by f ts)
 
-  pub copy_fields : Fields → Fields
-  copy_fields no_fields = no_fields
-  copy_fields (field_then k t fs) = field_then k (copy t) (copy_fields fs)
+  pub copy_fields_by : (AccessMode → AccessMode) → Fields → Fields
+  copy_fields_by f no_fields = no_fields
+  copy_fields_by f (field_then k t fs) = field_then k (copy_by f t) (copy_fields_by f fs)
+
+-- every mode ReadWrite
+abbrev pub writable : AccessMode → AccessMode
+writable m = ReadWrite
+
+-- the same content and tags, every mode ReadWrite
+abbrev pub copy : Tree → Tree
+copy = copy_by writable
+
+abbrev pub copy_content : Content → Content
+copy_content = copy_content_by writable
+
+abbrev pub copy_trees : Trees → Trees
+copy_trees = copy_trees_by writable
+
+abbrev pub copy_fields : Fields → Fields
+copy_fields = copy_fields_by writable
 
 -- painted with the mode m, through arrays and maps; not in curried values
 abbrev mutual

@@ -3,6 +3,7 @@
 pub(crate) mod cell_ref;
 pub(crate) mod chain;
 pub(crate) mod collect;
+pub(crate) mod copy;
 pub(crate) mod deep_cells;
 pub(crate) mod flatten;
 pub(crate) mod marks;

@@ -9,6 +9,7 @@ pub(crate) mod hollow;
 pub(crate) mod job;
 pub(crate) mod level;
 pub(crate) mod locked;
+pub(crate) mod modes;
 pub(crate) mod near;
 pub(crate) mod paint_far;
 pub(crate) mod scan;

@@ -14,6 +14,7 @@ use crate::value::fn_ptr::FnPtr;
 use crate::value::type_id::TypeId;
 use crate::value::union::{Array, Blob, INT, Union};
 use crate::walk::copy::{copied_function, copied_items, copied_map};
+use crate::walk::modes::Writable;
 use crate::walk::near::NEAR;
 use rhai_text::ImmutableString;
 use std::alloc::{AllocError, Global};
@@ -366,7 +367,7 @@ impl Part for Array {
 
     #[tactic(auto, using(crate::proofs::Copies::copied_trees, crate::proofs::Copies::copied_fields))]
     fn try_clone(&self, alloc: Global) -> Result<Array, AllocError> {
-        copied_items(self, alloc, NEAR)
+        copied_items::<Writable>(self, alloc, NEAR)
     }
 
     ghost constructs = { refl };
@@ -418,7 +419,7 @@ impl Part for Map {
 
     #[tactic(auto, using(crate::proofs::Copies::copied_trees, crate::proofs::Copies::copied_fields))]
     fn try_clone(&self, alloc: Global) -> Result<Map, AllocError> {
-        copied_map(self, alloc, NEAR)
+        copied_map::<Writable>(self, alloc, NEAR)
     }
 
     ghost constructs = { refl };
@@ -470,7 +471,7 @@ impl Part for FnPtr {
 
     #[tactic(auto, using(crate::proofs::Copies::copied_trees, crate::proofs::Copies::copied_fields))]
     fn try_clone(&self, alloc: Global) -> Result<FnPtr, AllocError> {
-        copied_function(self, alloc, NEAR)
+        copied_function::<Writable>(self, alloc, NEAR)
     }
 
     ghost constructs = { refl };

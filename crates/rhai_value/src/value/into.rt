@@ -10,6 +10,7 @@ use crate::parts::part::Part;
 use crate::value::dynamic::Dynamic;
 use crate::value::union::{Array, Blob};
 use crate::walk::copy::copied_items;
+use crate::walk::modes::Writable;
 use crate::walk::near::NEAR;
 use rhai_text::ImmutableString;
 use std::alloc::{AllocError, Global};
@@ -94,7 +95,7 @@ impl Dynamic {
         };
         match value.as_array_ref(store) {
             Err(name) => Err(IntoError::Mismatch(name)),
-            Ok(items) => Ok(copied_items(items, alloc, NEAR)?),
+            Ok(items) => Ok(copied_items::<Writable>(items, alloc, NEAR)?),
         }
     }
 

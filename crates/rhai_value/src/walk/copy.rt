@@ -1,9 +1,9 @@
-//! Deep copies.
+//! Deep copies, with every mode ReadWrite or with the modes as they are.
 ghost use Rattle.std.specs.Prelude.{◌≡◌, ◌<◌, vec_len, vec_capacity, ◌++◌, ◌∷◌, [], if◌then◌else◌, IfOk, IsOk, map};
 ghost use Rattle.rhai_value.specs.RowWalks.{chunk_view, copied_chunk};
 ghost use Rattle.rhai_value.specs.Lists.{rows, rows_of, IsWhole};
 ghost use Rattle.rhai_value.specs.Rows.{copied_rows};
-ghost use Rattle.rhai_value.specs.Tree.{TakesNoMemory, copy};
+ghost use Rattle.rhai_value.specs.Tree.{TakesNoMemory, copy, copy_by};
 ghost use Rattle.rhai_value.specs.View.{tree_of};
 
 use crate::map::{Chunk, Entry, Map, MapParts};
@@ -12,6 +12,7 @@ use crate::value::dynamic::Dynamic;
 use crate::value::fn_ptr::FnPtr;
 use crate::value::union::Union;
 use crate::walk::copy_far::copied_far;
+use crate::walk::modes::{Modes, Unchanged, Writable};
 use crate::walk::near::NEAR;
 use std::alloc::{AllocError, Global};
 
@@ -48,7 +49,7 @@ impl Dynamic {
             let union = Union::Blob(*tag, mode, bytes);
             return Ok(Dynamic { union });
         }
-        copied(self, alloc, NEAR)
+        copied::<Writable>(self, alloc, NEAR)
     }
 
     /// Copies values, each as `copy` does.
@@ -61,87 +62,123 @@ impl Dynamic {
         if values.is_empty() {
             return Ok(Vec::new(alloc));
         }
-        copied_items(values, alloc, NEAR)
+        copied_items::<Writable>(values, alloc, NEAR)
+    }
+
+    /// Copies the value and all values inside it with their modes; the copy of a holder refers to
+    /// the same cell.
+    /// Errors: an allocation fails; the partial copy is dropped.
+    /// Cost: that of `copy`.
+    #[tactic(auto, using(crate::proofs::Copies::unchanged))]
+    pub fn copy_with_modes(&self, alloc: Global) -> Result<Dynamic, AllocError>
+        ensures value { IfOk result (λ d. d ≡ self.now) }
+        ensures free { TakesNoMemory self.now → IsOk result }
+    {
+        copied::<Unchanged>(self, alloc, NEAR)
+    }
+
+    /// Copies values, each as `copy_with_modes` does.
+    /// Errors: an allocation fails; the partial copy is dropped.
+    /// Cost: that of `copies`.
+    #[tactic(auto, using(crate::proofs::Copies::all_unchanged))]
+    pub fn copies_with_modes(alloc: Global, values: &[Dynamic]) -> Result<Vec<Dynamic>, AllocError>
+        ensures value { IfOk result (λ v. v.items ≡ values.now) }
+        ensures free { values.now ≡ [] → IsOk result }
+    {
+        if values.is_empty() {
+            return Ok(Vec::new(alloc));
+        }
+        copied_items::<Unchanged>(values, alloc, NEAR)
     }
 }
 
 #[inline(always)]
 #[cycle(copy)]
-fn copied(value: &Dynamic, alloc: Global, levels: u32) -> Result<Dynamic, AllocError>
-    ensures value { IfOk result (λ d. d ≡ copy value.now) }
+fn copied<M: Modes>(value: &Dynamic, alloc: Global, levels: u32) -> Result<Dynamic, AllocError>
+    ensures value { IfOk result (λ d. d ≡ copy_by M.after value.now) }
     ensures free { TakesNoMemory value.now → IsOk result }
 {
-    let union = copied_union(&value.union, alloc, levels)?;
+    let union = copied_union::<M>(&value.union, alloc, levels)?;
     Ok(Dynamic { union })
 }
 
 #[inline(never)]
 #[cycle(copy)]
 #[tactic(auto, using(crate::proofs::Copies::copied_trees, crate::proofs::Copies::copied_fields))]
-fn copied_union(union: &Union, alloc: Global, levels: u32) -> Result<Union, AllocError>
-    ensures value { IfOk result (λ u. tree_of u ≡ copy (tree_of union.now)) }
+fn copied_union<M: Modes>(union: &Union, alloc: Global, levels: u32) -> Result<Union, AllocError>
+    ensures value { IfOk result (λ u. tree_of u ≡ copy_by M.after (tree_of union.now)) }
     ensures free { TakesNoMemory (tree_of union.now) → IsOk result }
 {
-    let mode = AccessMode::ReadWrite;
     match union {
-        Union::Unit(tag, _, value) => Ok(Union::Unit(*tag, mode, *value)),
-        Union::Bool(tag, _, value) => Ok(Union::Bool(*tag, mode, *value)),
-        Union::Str(tag, _, text) => Ok(Union::Str(*tag, mode, text.copy(alloc)?)),
-        Union::Char(tag, _, value) => Ok(Union::Char(*tag, mode, *value)),
-        Union::Int(tag, _, value) => Ok(Union::Int(*tag, mode, *value)),
-        Union::Array(tag, _, items) => {
+        Union::Unit(tag, mode, value) => Ok(Union::Unit(*tag, M::after(*mode), *value)),
+        Union::Bool(tag, mode, value) => Ok(Union::Bool(*tag, M::after(*mode), *value)),
+        Union::Str(tag, mode, text) => Ok(Union::Str(*tag, M::after(*mode), text.copy(alloc)?)),
+        Union::Char(tag, mode, value) => Ok(Union::Char(*tag, M::after(*mode), *value)),
+        Union::Int(tag, mode, value) => Ok(Union::Int(*tag, M::after(*mode), *value)),
+        Union::Array(tag, mode, items) => {
             if levels == 0 {
-                return copied_far(union, alloc);
+                return copied_far::<M>(union, alloc);
             }
-            let items = copied_items(items, alloc, levels - 1)?;
-            Ok(Union::Array(*tag, mode, items))
+            let items = copied_items::<M>(items, alloc, levels - 1)?;
+            Ok(Union::Array(*tag, M::after(*mode), items))
         }
-        Union::Blob(tag, _, bytes) => Ok(Union::Blob(*tag, mode, Vec::from_slice(alloc, bytes)?)),
-        Union::Map(tag, _, map) => {
+        Union::Blob(tag, mode, bytes) => Ok(Union::Blob(
+            *tag,
+            M::after(*mode),
+            Vec::from_slice(alloc, bytes)?,
+        )),
+        Union::Map(tag, mode, map) => {
             if levels == 0 {
-                return copied_far(union, alloc);
+                return copied_far::<M>(union, alloc);
             }
-            Ok(Union::Map(*tag, mode, copied_map(map, alloc, levels - 1)?))
+            Ok(Union::Map(
+                *tag,
+                M::after(*mode),
+                copied_map::<M>(map, alloc, levels - 1)?,
+            ))
         }
-        Union::FnPtr(tag, _, f) => {
+        Union::FnPtr(tag, mode, f) => {
             if levels == 0 {
-                return copied_far(union, alloc);
+                return copied_far::<M>(union, alloc);
             }
-            let f = copied_function(f, alloc, levels - 1)?;
-            Ok(Union::FnPtr(*tag, mode, f))
+            let f = copied_function::<M>(f, alloc, levels - 1)?;
+            Ok(Union::FnPtr(*tag, M::after(*mode), f))
         }
-        Union::Variant(tag, _, host) => Ok(Union::Variant(*tag, mode, *host)),
-        Union::Shared(tag, _, cell) => Ok(Union::Shared(*tag, mode, *cell)),
+        Union::Variant(tag, mode, host) => Ok(Union::Variant(*tag, M::after(*mode), *host)),
+        Union::Shared(tag, mode, cell) => Ok(Union::Shared(*tag, M::after(*mode), *cell)),
     }
 }
 
 // Appends the copy of a frequent item type, with a separate write for each type. Returns whether it
 // did.
 #[inline(always)]
-fn push_short(copies: &mut Vec<Dynamic>, union: &Union, alloc: Global) -> Result<bool, AllocError>
+fn push_short<M: Modes>(
+    copies: &mut Vec<Dynamic>,
+    union: &Union,
+    alloc: Global,
+) -> Result<bool, AllocError>
     requires { vec_len copies.old < vec_capacity copies.old }
     ensures room { vec_capacity copies.new ≡ vec_capacity copies.old }
-    ensures copied { IfOk result (λ done. copies.new.items ≡ (if done then copies.old.items ++ copy (tree_of union.now) ∷ [] else copies.old.items)) }
+    ensures copied { IfOk result (λ done. copies.new.items ≡ (if done then copies.old.items ++ copy_by M.after (tree_of union.now) ∷ [] else copies.old.items)) }
 {
-    let mode = AccessMode::ReadWrite;
     match union {
-        Union::Int(tag, _, value) => {
-            let union = Union::Int(*tag, mode, *value);
+        Union::Int(tag, mode, value) => {
+            let union = Union::Int(*tag, M::after(*mode), *value);
             copies.push_reserved(Dynamic { union });
             Ok(true)
         }
-        Union::Str(tag, _, text) => {
-            let union = Union::Str(*tag, mode, text.copy(alloc)?);
+        Union::Str(tag, mode, text) => {
+            let union = Union::Str(*tag, M::after(*mode), text.copy(alloc)?);
             copies.push_reserved(Dynamic { union });
             Ok(true)
         }
-        Union::Bool(tag, _, value) => {
-            let union = Union::Bool(*tag, mode, *value);
+        Union::Bool(tag, mode, value) => {
+            let union = Union::Bool(*tag, M::after(*mode), *value);
             copies.push_reserved(Dynamic { union });
             Ok(true)
         }
-        Union::Shared(tag, _, cell) => {
-            let union = Union::Shared(*tag, mode, *cell);
+        Union::Shared(tag, mode, cell) => {
+            let union = Union::Shared(*tag, M::after(*mode), *cell);
             copies.push_reserved(Dynamic { union });
             Ok(true)
         }
@@ -157,40 +194,44 @@ fn push_short(copies: &mut Vec<Dynamic>, union: &Union, alloc: Global) -> Result
 
 // Copies the items into a list allocated once.
 #[cycle(copy)]
-pub(crate) fn copied_items(
+pub(crate) fn copied_items<M: Modes>(
     items: &[Dynamic],
     alloc: Global,
     levels: u32,
 ) -> Result<Vec<Dynamic>, AllocError>
-    ensures { IfOk result (λ v. v.items ≡ map copy items.now) }
+    ensures { IfOk result (λ v. v.items ≡ map (copy_by M.after) items.now) }
 {
     let mut copies = Vec::with_capacity(alloc, items.len())?;
     for item in items {
-        if !push_short(&mut copies, &item.union, alloc)? {
-            copies.push_reserved(copied(item, alloc, levels)?);
+        if !push_short::<M>(&mut copies, &item.union, alloc)? {
+            copies.push_reserved(copied::<M>(item, alloc, levels)?);
         }
     }
     Ok(copies)
 }
 
 #[cycle(copy)]
-pub(crate) fn copied_function(f: &FnPtr, alloc: Global, levels: u32) -> Result<FnPtr, AllocError>
-    ensures { IfOk result (λ g. g ≡ (f.now.0, map copy f.now.1)) }
+pub(crate) fn copied_function<M: Modes>(
+    f: &FnPtr,
+    alloc: Global,
+    levels: u32,
+) -> Result<FnPtr, AllocError>
+    ensures { IfOk result (λ g. g ≡ (f.now.0, map (copy_by M.after) f.now.1)) }
 {
     let name = f.name.copy(alloc)?;
-    let curry = copied_items(&f.curry, alloc, levels)?;
+    let curry = copied_items::<M>(&f.curry, alloc, levels)?;
     Ok(FnPtr { name, curry })
 }
 
 #[cycle(copy)]
-pub(crate) fn copied_map(map: &Map, alloc: Global, levels: u32) -> Result<Map, AllocError>
-    ensures { IfOk result (λ m. m ≡ copied_rows map.now) }
+pub(crate) fn copied_map<M: Modes>(map: &Map, alloc: Global, levels: u32) -> Result<Map, AllocError>
+    ensures { IfOk result (λ m. m ≡ copied_rows M.after map.now) }
 {
     match &map.parts {
         None => Ok(Map::new(alloc)),
         Some(parts) => {
             let parts: &MapParts = parts;
-            let parts = Box::new(alloc, copied_parts(parts, alloc, levels)?)?;
+            let parts = Box::new(alloc, copied_parts::<M>(parts, alloc, levels)?)?;
             Ok(Map {
                 parts: Some(parts),
                 alloc,
@@ -201,13 +242,17 @@ pub(crate) fn copied_map(map: &Map, alloc: Global, levels: u32) -> Result<Map, A
 
 // Copies list by list.
 #[cycle(copy)]
-fn copied_parts(parts: &MapParts, alloc: Global, levels: u32) -> Result<MapParts, AllocError>
+fn copied_parts<M: Modes>(
+    parts: &MapParts,
+    alloc: Global,
+    levels: u32,
+) -> Result<MapParts, AllocError>
     requires { IsWhole parts.now }
-    ensures rows { IfOk result (λ p. rows_of p ≡ copied_rows (rows_of parts.now)) }
+    ensures rows { IfOk result (λ p. rows_of p ≡ copied_rows M.after (rows_of parts.now)) }
     ensures whole { IfOk result (λ p. IsWhole p) }
 {
-    let first = copied_entries(&parts.first, alloc, levels)?;
-    let rest = copied_chunks(&parts.rest, alloc, levels)?;
+    let first = copied_entries::<M>(&parts.first, alloc, levels)?;
+    let rest = copied_chunks::<M>(&parts.rest, alloc, levels)?;
     Ok(MapParts {
         first,
         rest,
@@ -216,12 +261,16 @@ fn copied_parts(parts: &MapParts, alloc: Global, levels: u32) -> Result<MapParts
 }
 
 #[cycle(copy)]
-fn copied_chunks(rest: &Vec<Chunk>, alloc: Global, levels: u32) -> Result<Vec<Chunk>, AllocError>
-    ensures { IfOk result (λ v. map chunk_view v.items ≡ map copied_chunk (map chunk_view rest.now.items)) }
+fn copied_chunks<M: Modes>(
+    rest: &Vec<Chunk>,
+    alloc: Global,
+    levels: u32,
+) -> Result<Vec<Chunk>, AllocError>
+    ensures { IfOk result (λ v. map chunk_view v.items ≡ map (copied_chunk M.after) (map chunk_view rest.now.items)) }
 {
     let mut copies = Vec::with_capacity(alloc, rest.len())?;
     for chunk in rest {
-        let entries = copied_entries(&chunk.entries, alloc, levels)?;
+        let entries = copied_entries::<M>(&chunk.entries, alloc, levels)?;
         copies.push_reserved(Chunk {
             front: chunk.front,
             entries,
@@ -232,22 +281,22 @@ fn copied_chunks(rest: &Vec<Chunk>, alloc: Global, levels: u32) -> Result<Vec<Ch
 
 // Ints, the most frequent values of maps, are copied in place.
 #[cycle(copy)]
-fn copied_entries(
+fn copied_entries<M: Modes>(
     entries: &Vec<Entry>,
     alloc: Global,
     levels: u32,
 ) -> Result<Vec<Entry>, AllocError>
-    ensures { IfOk result (λ v. rows v.items ≡ copied_rows (rows entries.now.items)) }
+    ensures { IfOk result (λ v. rows v.items ≡ copied_rows M.after (rows entries.now.items)) }
 {
     let mut copies = Vec::with_capacity(alloc, entries.len())?;
     for entry in entries {
         let key = entry.key.copy()?;
-        if let Union::Int(tag, _, n) = &entry.value.union {
-            let union = Union::Int(*tag, AccessMode::ReadWrite, *n);
+        if let Union::Int(tag, mode, n) = &entry.value.union {
+            let union = Union::Int(*tag, M::after(*mode), *n);
             let value = Dynamic { union };
             copies.push_reserved(Entry { key, value });
         } else {
-            let value = copied(&entry.value, alloc, levels)?;
+            let value = copied::<M>(&entry.value, alloc, levels)?;
             copies.push_reserved(Entry { key, value });
         }
     }

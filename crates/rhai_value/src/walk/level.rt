@@ -2,16 +2,17 @@
 
 use crate::map::Map;
 use crate::map::entries::Entries;
+use crate::value::access_mode::AccessMode;
 use crate::value::dynamic::Dynamic;
 use crate::value::union::Tag;
 use rhai_text::ImmutableString;
 
-/// Frame of a copy: the value's tag, a function's name, and the children.
+/// Frame of a copy: its tag and mode, a function's name, and the children.
 #[derive(Drop)]
 pub(crate) enum Level<'a> {
-    Array(Tag, CopiedItems<'a>),
-    Function(Tag, ImmutableString, CopiedItems<'a>),
-    Fields(Tag, CopiedFields<'a>),
+    Array(Tag, AccessMode, CopiedItems<'a>),
+    Function(Tag, AccessMode, ImmutableString, CopiedItems<'a>),
+    Fields(Tag, AccessMode, CopiedFields<'a>),
 }
 
 /// The remaining items, and the copies of those before.

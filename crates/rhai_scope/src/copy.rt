@@ -1,5 +1,5 @@
 //! Copies of a scope.
-ghost use Rattle.std.specs.Prelude.{◌≡◌, ◌∷◌, ◌++◌, [], map, IfOk, OnOk};
+ghost use Rattle.std.specs.Prelude.{◌≡◌, ◌∷◌, ◌++◌, [], map, IfOk, IsOk, OnOk};
 ghost use Rattle.rhai_scope.specs.Entry.{copied_value, copied_entry};
 
 use crate::alias::Alias;
@@ -52,6 +52,16 @@ fn copies_of(alloc: Global, entries: &[Record]) -> Result<Vec<Record>, AllocErro
     Ok(copies)
 }
 
+fn copies_with_modes(alloc: Global, entries: &[Record]) -> Result<Vec<Record>, AllocError>
+    ensures { IfOk result (λ v. v.items ≡ entries.now) }
+{
+    let mut copies = Vec::with_capacity(alloc, entries.len())?;
+    for entry in entries {
+        copies.push_reserved(entry.copy_with_modes(alloc)?);
+    }
+    Ok(copies)
+}
+
 impl Scope {
     /// Copies the entries with their aliases. Each copied value is painted with its own mode; the
     /// copy of a holder refers to the same cell. Names and aliases share their bytes.
@@ -62,5 +72,19 @@ impl Scope {
         ensures { IfOk result (λ s. s ≡ map copied_entry self.now) }
     {
         Scope::from_records(self.alloc, copies_of(self.alloc, &self.records)?)
+    }
+    /// Copies the entries with their aliases, and their values with all modes inside them; the copy
+    /// of a holder refers to the same cell. Names and aliases share their bytes.
+    /// Errors: an allocation fails.
+    /// Cost: the number of entries, and that of `Dynamic::copy_with_modes` for each value; no
+    /// memory without entries.
+    pub fn copy_with_modes(&self) -> Result<Scope, AllocError>
+        ensures value { IfOk result (λ s. s ≡ self.now) }
+        ensures free { self.now ≡ [] → IsOk result }
+    {
+        if self.records.is_empty() {
+            return Ok(Scope::new(self.alloc));
+        }
+        Scope::from_records(self.alloc, copies_with_modes(self.alloc, &self.records)?)
     }
 }

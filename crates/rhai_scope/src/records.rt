@@ -63,16 +63,30 @@ impl Record {
         }
     }
 
-    /// Copies the entry: its name and its aliases share their bytes, and its value is copied.
-    pub(crate) fn copy(&self, alloc: Global) -> Result<Record, AllocError>
-        ensures { IfOk result (λ e. e ≡ copied_entry self.now) }
+    /// The entry with this value: its name and its aliases share their bytes.
+    #[inline(always)]
+    fn copied_with(&self, alloc: Global, value: Dynamic) -> Result<Record, AllocError>
+        ensures { IfOk result (λ e. e ≡ with_value value self.now) }
     {
-        let name = self.name.copy(alloc)?;
-        let mut copied = Record::new(alloc, name, copied_value(alloc, &self.value)?);
+        let mut copied = Record::new(alloc, self.name.copy(alloc)?, value);
         if !self.aliases.is_empty() {
             copied.aliases = copied_list(alloc, &self.aliases)?;
         }
         Ok(copied)
+    }
+
+    /// Copies the entry, with a copy of its value.
+    pub(crate) fn copy(&self, alloc: Global) -> Result<Record, AllocError>
+        ensures { IfOk result (λ e. e ≡ copied_entry self.now) }
+    {
+        self.copied_with(alloc, copied_value(alloc, &self.value)?)
+    }
+
+    /// Copies the entry, with all modes inside its value.
+    pub(crate) fn copy_with_modes(&self, alloc: Global) -> Result<Record, AllocError>
+        ensures { IfOk result (λ e. e ≡ self.now) }
+    {
+        self.copied_with(alloc, self.value.copy_with_modes(alloc)?)
     }
 
     pub(crate) fn name(&self) -> &ImmutableString

@@ -1,5 +1,5 @@
 //! The memory layout of a world's state.
-ghost use Rattle.std.specs.Prelude.{◌≡◌, ◌≤◌, ◌<◌, length, slice_get, Some, None, IfOk, IfErr, OnOk};
+ghost use Rattle.std.specs.Prelude.{◌≡◌, ◌≤◌, ◌<◌, length, slice_get, Some, None, IfOk, IfErr, IsOk, OnOk};
 ghost use Rattle.rhai_run.specs.declared.answer.Refusal.TheVariants.{NoValue};
 ghost use Rattle.rhai_run.specs.declared.not_done.NotDone.TheVariants.{Refused};
 ghost use Rattle.rhai_run.specs.Outcome.{growing};
@@ -14,7 +14,7 @@ use crate::not_done::NotDone;
 use rhai_scope::Scope;
 use rhai_text::Limits;
 use rhai_value::{Dynamic, Store, WriteToken};
-use std::alloc::Global;
+use std::alloc::{AllocError, Global};
 use std::marker::Model;
 
 /// The state of a world. A command makes its allocations before it writes, so that one whose
@@ -53,6 +53,24 @@ impl WorldState {
             hand: Vec::new(alloc),
             limits,
         }
+    }
+
+    /// Copies the whole state. The marks come last, since a list of tokens can't be dropped.
+    pub(crate) fn cloned(&self) -> Result<WorldState, AllocError>
+        ensures value { IfOk result (λ w. w ≡ self.now) }
+        ensures free { self.now ≡ empty_state self.now.limits → IsOk result }
+    {
+        let scope = self.scope.copy_with_modes()?;
+        let hand = Dynamic::copies_with_modes(self.alloc, &self.hand)?;
+        let (store, marks) = self.store.copy(self.alloc, &self.marks)?;
+        Ok(WorldState {
+            alloc: self.alloc,
+            store,
+            scope,
+            marks,
+            hand,
+            limits: self.limits,
+        })
     }
 
     /// Unmarks the marked cells.

@@ -8,6 +8,7 @@ mod journals;
 mod machine;
 mod normalized;
 mod printed;
+mod restored;
 
 use crate::Tally;
 use std::io;
@@ -52,6 +53,12 @@ pub(crate) fn try_calls(rt: &(impl Print + AllocGlobal), tally: &mut Tally) -> i
         rt,
         "worlds made in two orders are alike in normal form",
         normalized::worlds_made_in_two_orders_are_alike(rt.alloc()),
+        tally,
+    )?;
+    tell(
+        rt,
+        "worlds of a snapshot answer alike",
+        restored::worlds_of_a_snapshot_answer_alike(rt.alloc()),
         tally,
     )?;
     tell(

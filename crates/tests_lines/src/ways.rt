@@ -23,17 +23,20 @@ pub(crate) enum Way {
     Collect,
     /// Command by command, each on the normal form of the world.
     Normalize,
+    /// Command by command, each on a world made of a snapshot of the one before.
+    Restore,
     /// In one run.
     Run,
     /// In one run over two worlds, the first of which has unreachable cells.
     Both,
 }
 
-pub(crate) const ALL: [Way; 6] = [
+pub(crate) const ALL: [Way; 7] = [
     Way::Lines,
     Way::Apply,
     Way::Collect,
     Way::Normalize,
+    Way::Restore,
     Way::Run,
     Way::Both,
 ];
@@ -46,6 +49,7 @@ impl Way {
             Way::Apply => "apply",
             Way::Collect => "collect",
             Way::Normalize => "normalize",
+            Way::Restore => "restore",
             Way::Run => "run",
             Way::Both => "both",
         }
@@ -87,6 +91,9 @@ fn answer(
         }
         Way::Normalize => {
             each::collect_after_each(rt, alloc, Collection::InOrder, &mut world, &commands, out)
+        }
+        Way::Restore => {
+            each::collect_after_each(rt, alloc, Collection::Restored, &mut world, &commands, out)
         }
         Way::Run => runs::run_at_last(rt, alloc, &mut world, &commands, out),
         Way::Both => runs::both_answer(rt, alloc, &mut world, limits, &commands, out),

@@ -5,6 +5,7 @@ use rhai_lines::write_answer;
 use rhai_run::{Answer, Command, World, apply};
 use std::alloc::{AllocError, Global};
 use std::io::Eprint;
+use std::mem;
 
 fn verb(line: &str) -> &str {
     line.split(' ').next().unwrap_or(line)
@@ -51,11 +52,15 @@ pub(super) fn apply_each(
     Ok(true)
 }
 
-/// Whether a collection keeps the order of the cells.
+/// What is done to a world that no answer shows.
 #[derive(Clone, Copy)]
 pub(super) enum Collection {
+    /// A collection that keeps the order of the cells.
     Plain,
+    /// One that puts them in the order in which they are first reached.
     InOrder,
+    /// Another world, made of a snapshot, takes its place.
+    Restored,
 }
 
 impl Collection {
@@ -63,6 +68,7 @@ impl Collection {
         match self {
             Collection::Plain => "collect",
             Collection::InOrder => "normalize",
+            Collection::Restored => "restore",
         }
     }
 
@@ -70,8 +76,18 @@ impl Collection {
         match self {
             Collection::Plain => world.collect(),
             Collection::InOrder => world.normalize(),
+            Collection::Restored => restore(world),
         }
     }
+}
+
+/// Replaces a world by one that is made of its snapshot.
+fn restore(world: &mut World) -> Result<(), AllocError> {
+    let snapshot = world.snapshot()?;
+    let restored = snapshot.restore();
+    snapshot.close();
+    mem::replace(world, restored?).close();
+    Ok(())
 }
 
 /// Collects. If an allocation fails, the world must be unchanged, and it is collected once more;

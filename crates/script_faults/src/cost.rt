@@ -1,5 +1,7 @@
 //! The size of a value, and how many operations a walk over it counts. An operation pays for four
 //! values, or for 64 bytes.
+ghost use Rattle.std.specs.Prelude.{◌≡◌, ◌+◌, ◌*◌, ◌/◌, false, IsOk};
+ghost use Rattle.script_faults.specs.Cost.{capped, has_parts, text_cost};
 
 use rhai_text::ImmutableString;
 use rhai_value::{Dynamic, Union};
@@ -12,17 +14,23 @@ const VALUES: u64 = 4;
 const BYTES: u64 = 64;
 
 /// Returns how many operations a walk over this many values counts.
-pub fn values_cost(count: usize) -> u64 {
+pub fn values_cost(count: usize) -> u64
+    ensures { result ≡ count / 4 }
+{
     operations_of(count as u64)
 }
 
 /// Returns how many operations a walk over this many bytes counts.
-pub fn bytes_cost(count: usize) -> u64 {
+pub fn bytes_cost(count: usize) -> u64
+    ensures { result ≡ count / 64 }
+{
     operations_of_bytes(count as u64)
 }
 
 /// Returns the operations of a walk over the characters of a text: a text of ASCII needs no walk.
-pub fn characters_cost(text: &ImmutableString) -> u64 {
+pub fn characters_cost(text: &ImmutableString) -> u64
+    ensures { result ≡ text_cost text.now }
+{
     let own = bytes_cost(text.len());
     if text.char_count() == text.len() {
         return own;
@@ -31,18 +39,24 @@ pub fn characters_cost(text: &ImmutableString) -> u64 {
 }
 
 /// Returns the operations for this many values.
-pub fn operations_of(values: u64) -> u64 {
+pub fn operations_of(values: u64) -> u64
+    ensures { result ≡ values / 4 }
+{
     values / VALUES
 }
 
 /// Returns the operations for this many bytes.
-pub fn operations_of_bytes(bytes: u64) -> u64 {
+pub fn operations_of_bytes(bytes: u64) -> u64
+    ensures { result ≡ bytes / 64 }
+{
     bytes / BYTES
 }
 
 /// Returns the operations for adding this many entries to maps: three each, for a search and an
 /// insertion.
-pub fn entries_cost(count: usize) -> u64 {
+pub fn entries_cost(count: usize) -> u64
+    ensures { result ≡ capped (3 * count) }
+{
     (count as u64).saturating_mul(3)
 }
 
@@ -55,7 +69,9 @@ pub(crate) fn values_within(operations: u64) -> u64 {
 /// aren't entered.
 /// Errors: the allocation of the work list fails.
 /// Cost: the number of values.
-pub fn cost_of(alloc: Global, value: &Dynamic) -> Result<u64, AllocError> {
+pub fn cost_of(alloc: Global, value: &Dynamic) -> Result<u64, AllocError>
+    ensures free { has_parts value.now ≡ false → IsOk result }
+{
     if !has_parts(value) {
         return Ok(own_cost(value));
     }
@@ -77,7 +93,9 @@ pub fn cost_of(alloc: Global, value: &Dynamic) -> Result<u64, AllocError> {
 /// result is more than `most`.
 /// Errors: the allocation of the work list fails.
 /// Cost: the number of values that are counted.
-pub fn copy_cost(alloc: Global, value: &Dynamic, most: u64) -> Result<u64, AllocError> {
+pub fn copy_cost(alloc: Global, value: &Dynamic, most: u64) -> Result<u64, AllocError>
+    ensures free { has_parts value.now ≡ false → IsOk result }
+{
     let own = own_weight(value);
     if !has_parts(value) || operations_of(own) > most {
         return Ok(operations_of(own));
@@ -121,7 +139,9 @@ fn weight_of(values: Vec<&Dynamic>, own: u64, most: u64) -> Result<u64, AllocErr
 }
 
 /// Whether a value contains other values.
-pub fn has_parts(value: &Dynamic) -> bool {
+pub fn has_parts(value: &Dynamic) -> bool
+    ensures { result ≡ has_parts value.now }
+{
     matches!(
         value.parts(),
         Union::Array(_, _, _) | Union::Map(_, _, _) | Union::FnPtr(_, _, _)

@@ -1,5 +1,10 @@
 //! Faults: what goes wrong while a script runs.
-ghost use Rattle.std.specs.Prelude.{◌≡◌};
+ghost use Rattle.std.specs.Prelude.{◌≡◌, ◌⊎◌, ◌≢◌, ◌<◌, ◌≤◌, true, IfErr, OnOk};
+ghost use Rattle.rhai_text.specs.declared.error.EvalAltResult.TheVariants as error;
+ghost use Rattle.rhai_text.specs.declared.position.TheConstants.Position as position;
+ghost use Rattle.script_faults.specs.Catchable.{is_catchable, is_error_catchable, is_want_of_memory};
+ghost use Rattle.script_faults.specs.Names.{mismatched};
+ghost use Rattle.script_faults.specs.declared.faults.FaultKind.TheVariants.{Layer};
 
 use crate::type_names::short_name;
 use rhai_show::display_text;
@@ -72,12 +77,16 @@ impl FaultKind {
     }
 
     /// Returns whether an allocation failed.
-    pub fn is_want_of_memory(&self) -> bool {
+    pub fn is_want_of_memory(&self) -> bool
+        ensures { result ≡ is_want_of_memory self.now }
+    {
         matches!(self, FaultKind::Layer(EvalAltResult::ErrorMemory(_)))
     }
 
     /// Returns whether a script may catch it. Limits and failed allocations stop the script.
-    pub fn is_catchable(&self) -> bool {
+    pub fn is_catchable(&self) -> bool
+        ensures { result ≡ is_catchable self.now }
+    {
         match self {
             FaultKind::Layer(error) => is_error_catchable(error),
             FaultKind::UnknownName(_)
@@ -147,7 +156,9 @@ impl FaultKind {
     }
 }
 
-fn is_error_catchable(error: &EvalAltResult) -> bool {
+fn is_error_catchable(error: &EvalAltResult) -> bool
+    ensures { result ≡ is_error_catchable error.now }
+{
     match error {
         EvalAltResult::ErrorMismatchDataType(_, _, _)
         | EvalAltResult::ErrorDataRace(_)
@@ -194,7 +205,9 @@ fn symbol_of(op: Token) -> &'static str {
 }
 
 /// Makes the fault for a value of an unexpected type.
-pub fn mismatch(wanted: &'static str, found: &'static str) -> FaultKind {
+pub fn mismatch(wanted: &'static str, found: &'static str) -> FaultKind
+    ensures { result ≡ mismatched wanted.now found.now }
+{
     let found = short_name(found);
     FaultKind::Layer(EvalAltResult::mismatch(wanted, found, Position::NONE))
 }
@@ -211,7 +224,10 @@ fn arithmetic_message(fault: ArithmeticFault) -> &'static str {
 
 /// Checks a size against a limit, of which 0 is none.
 /// Errors: the size exceeds it.
-pub fn check_size(limit: usize, count: usize, size: SizeKind) -> Result<(), FaultKind> {
+pub fn check_size(limit: usize, count: usize, size: SizeKind) -> Result<(), FaultKind>
+    ensures ok { OnOk result ((limit ≡ 0) ⊎ (count ≤ limit)) }
+    ensures err { IfErr result (λ e. (e ≡ Layer (error.ErrorDataTooLarge size position.NONE)) × (limit ≢ 0) × (limit < count)) }
+{
     if limit != 0 && count > limit {
         return Err(FaultKind::Layer(EvalAltResult::ErrorDataTooLarge(size, Position::NONE)));
     }
@@ -219,35 +235,47 @@ pub fn check_size(limit: usize, count: usize, size: SizeKind) -> Result<(), Faul
 }
 
 /// Makes the fault for a value that is in use.
-pub fn in_use() -> FaultKind {
+pub fn in_use() -> FaultKind
+    ensures { result ≡ Layer (error.ErrorDataRace position.NONE) }
+{
     FaultKind::Layer(EvalAltResult::ErrorDataRace(Position::NONE))
 }
 
 impl From<EvalAltResult> for FaultKind {
+    ghost from_gives = { λ e result. result ≡ Layer e };
+
     fn from(error: EvalAltResult) -> FaultKind {
         FaultKind::Layer(error)
     }
 }
 
 impl From<AllocError> for FaultKind {
+    ghost from_gives = { λ e result. is_want_of_memory result ≡ true };
+
     fn from(error: AllocError) -> FaultKind {
         FaultKind::Layer(EvalAltResult::ErrorMemory(error))
     }
 }
 
 impl<T: Drop> From<AllocFailed<T>> for FaultKind {
+    ghost from_gives = { λ e result. is_want_of_memory result ≡ true };
+
     fn from(_failed: AllocFailed<T>) -> FaultKind {
         FaultKind::Layer(EvalAltResult::ErrorMemory(AllocError))
     }
 }
 
 impl From<AllocError> for Fault {
+    ghost from_gives = { λ e result. (is_want_of_memory result.kind ≡ true) × (result.position ≡ position.NONE) };
+
     fn from(error: AllocError) -> Fault {
         FaultKind::from(error).at(Position::NONE)
     }
 }
 
 impl<T: Drop> From<AllocFailed<T>> for Fault {
+    ghost from_gives = { λ e result. (is_want_of_memory result.kind ≡ true) × (result.position ≡ position.NONE) };
+
     fn from(_failed: AllocFailed<T>) -> Fault {
         FaultKind::from(AllocError).at(Position::NONE)
     }

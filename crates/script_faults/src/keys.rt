@@ -1,7 +1,9 @@
 //! Keys: what leads from a value to a part of it.
+ghost use Rattle.std.specs.Prelude.{◌≡◌, Some, None, IfOk, IfErr};
+ghost use Rattle.std.specs.Str.{chars};
+ghost use Rattle.script_faults.specs.Keys.{index_of, name_of, IsNoIndex, IsNoName};
 
 use crate::faults::{FaultKind, mismatch};
-use crate::type_names::type_name_of;
 use rhai_value::{Dynamic, INT, Store};
 
 /// A step from a value to a part of it.
@@ -16,11 +18,14 @@ pub enum Key<'k> {
 /// Returns the int in brackets.
 /// Errors: another type in the brackets, or the name of a property that values of this type don't
 /// have.
-pub fn index_in(key: &Key<'_>, store: &Store, found: &'static str) -> Result<INT, FaultKind> {
+pub fn index_in(key: &Key<'_>, store: &Store, found: &'static str) -> Result<INT, FaultKind>
+    ensures ok { IfOk result (λ n. index_of store.now key.now ≡ Some n) }
+    ensures err { IfErr result (λ e. (index_of store.now key.now ≡ None) × IsNoIndex store.now key.now found.now e) }
+{
     match key {
         Key::Index(index) => match index.as_int(store) {
             Ok(index) => Ok(index),
-            Err(_) => Err(mismatch("i64", type_name_of(index, store))),
+            Err(_) => Err(mismatch("i64", index.type_id(store).name())),
         },
         Key::Name(_) => Err(FaultKind::NoParts(found)),
     }
@@ -28,11 +33,14 @@ pub fn index_in(key: &Key<'_>, store: &Store, found: &'static str) -> Result<INT
 
 /// Returns the text in brackets, or the name.
 /// Errors: another type in the brackets.
-pub fn name_in<'k>(key: &Key<'k>, store: &'k Store) -> Result<&'k str, FaultKind> {
+pub fn name_in<'k>(key: &Key<'k>, store: &'k Store) -> Result<&'k str, FaultKind>
+    ensures ok { IfOk result (λ name. name_of store.now key.now ≡ Some (chars name.now)) }
+    ensures err { IfErr result (λ e. (name_of store.now key.now ≡ None) × IsNoName store.now key.now e) }
+{
     match *key {
         Key::Index(index) => match index.as_immutable_string_ref(store) {
             Ok(text) => Ok(text.as_str()),
-            Err(_) => Err(mismatch("string", type_name_of(index, store))),
+            Err(_) => Err(mismatch("string", index.type_id(store).name())),
         },
         Key::Name(name) => Ok(name),
     }

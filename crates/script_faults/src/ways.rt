@@ -1,6 +1,7 @@
 //! Values that are reachable on many paths.
-ghost use Rattle.std.specs.Prelude.{◌≡◌, ◌+◌, ◌<◌, true, length, is_some, IfOk, IfSome, IfNone};
+ghost use Rattle.std.specs.Prelude.{◌≡◌, ◌+◌, ◌<◌, true, length, is_some, IfOk, IfErr, IfSome, IfNone};
 ghost use Rattle.rhai_value.specs.Tree.{cell_of};
+ghost use Rattle.script_faults.specs.Walks.{IsRefusedWalk};
 
 use crate::cost::{has_parts, operations_of, own_cost, push_parts, values_within, walk_weight};
 use crate::faults::FaultKind;
@@ -15,7 +16,9 @@ use std::mem;
 /// visits.
 /// Errors: `ErrorDataTooLarge`, without a position; an allocation fails.
 /// Cost: what is visited, as far as it is allowed; memory for work lists, one for each open cell.
-pub fn check_ways(means: &Means, store: &Store, value: &Dynamic) -> Result<(), FaultKind> {
+pub fn check_ways(means: &Means, store: &Store, value: &Dynamic) -> Result<(), FaultKind>
+    ensures err { IfErr result (IsRefusedWalk means.now.limits) }
+{
     walk_cost(means, store, value, u64::MAX)?;
     Ok(())
 }
@@ -24,12 +27,9 @@ pub fn check_ways(means: &Means, store: &Store, value: &Dynamic) -> Result<(), F
 /// to them. Stops counting once the result is more than `most`.
 /// Errors: as `check_ways`, as far as it is counted.
 /// Cost: that of `check_ways`.
-pub fn walk_cost(
-    means: &Means,
-    store: &Store,
-    value: &Dynamic,
-    most: u64,
-) -> Result<u64, FaultKind> {
+pub fn walk_cost(means: &Means, store: &Store, value: &Dynamic, most: u64) -> Result<u64, FaultKind>
+    ensures err { IfErr result (IsRefusedWalk means.now.limits) }
+{
     let mut first = Vec::new(means.alloc);
     if leads_on(value) {
         first.push(value)?;
@@ -47,7 +47,9 @@ pub fn print_cost(
     store: &Store,
     value: &Dynamic,
     most: u64,
-) -> Result<u64, FaultKind> {
+) -> Result<u64, FaultKind>
+    ensures err { IfErr result (IsRefusedWalk means.now.limits) }
+{
     let cost = walk_cost(means, store, value, most)?;
     if value.is_string(store) {
         return Ok(cost);
@@ -58,7 +60,9 @@ pub fn print_cost(
 /// Refuses values that are visited together, as `check_ways` does for one.
 /// Errors: `ErrorDataTooLarge`, without a position; an allocation fails.
 /// Cost: that of `check_ways`.
-pub fn check_all_ways(means: &Means, store: &Store, values: &[Dynamic]) -> Result<(), FaultKind> {
+pub fn check_all_ways(means: &Means, store: &Store, values: &[Dynamic]) -> Result<(), FaultKind>
+    ensures err { IfErr result (IsRefusedWalk means.now.limits) }
+{
     walks_cost(means, store, values, u64::MAX)?;
     Ok(())
 }
@@ -71,7 +75,9 @@ pub fn walks_cost(
     store: &Store,
     values: &[Dynamic],
     most: u64,
-) -> Result<u64, FaultKind> {
+) -> Result<u64, FaultKind>
+    ensures err { IfErr result (IsRefusedWalk means.now.limits) }
+{
     let mut first = Vec::new(means.alloc);
     let mut small = values.len() as u64;
     for value in values {
@@ -95,7 +101,9 @@ fn go_through<'v>(
     first: Vec<&'v Dynamic>,
     beside: u64,
     most: u64,
-) -> Result<u64, FaultKind> {
+) -> Result<u64, FaultKind>
+    ensures { IfErr result (IsRefusedWalk means.now.limits) }
+{
     let mut level = first;
     let mut outer = Vec::new(means.alloc);
     let mut path = Path::new(means.alloc);
@@ -153,7 +161,9 @@ fn close(path: &mut Path)
 }
 
 /// Fails if these are more values than an array may have items.
-fn check_count(means: &Means, count: u64) -> Result<(), FaultKind> {
+fn check_count(means: &Means, count: u64) -> Result<(), FaultKind>
+    ensures { IfErr result (IsRefusedWalk means.now.limits) }
+{
     let most = means.limits.items as u64;
     if most != 0 && count > most {
         return Err(FaultKind::Layer(EvalAltResult::ErrorDataTooLarge(

@@ -1,0 +1,5 @@
+pub mod Catchable
+pub mod Cost
+pub mod Keys
+pub mod Names
+pub mod Walks
